@@ -1,0 +1,112 @@
+-- The codes of refusals: their order and their names.
+use Rattle.std.specs.Prelude.{ℕ, List, codes}
+use Rattle.wr_base.specs.declared.code.Code.{Code}
+use Rattle.wr_base.specs.declared.code.Code.TheVariants.{NotUtf8, BadChar, OpenComment, OpenText, WideNumber, LongName, Syntax, FloatType, UnknownAttribute, TooDeep, BadAttribute, ConstructorName, DoubleConstructor, DuplicateName, UnknownType, WrongArity, SynthesisClash, Unresolved, WrongKind, NotClosed, DefaultMissing, EnumRepeat, FieldRepeat, ParamRepeat, EnumRange, StructEmpty, FieldType, StructCycle, UseKind, ExclusiveUse, ReferenceArgument, EventType, EventDelegate, OverloadArity, OverloadKind, MemberCase, AccessorClash, InterfaceWanted, RequiresCycle, MemberClash, StaticMembers, ConstructorArity, FactoryShape, NamespaceClash, DuplicateId, ManyTypes, ManyMembers, ManyParams, LongFullName, ManyNames, ManyUses}
+
+-- the number in the order of the table: lexing and parsing, names, synthesis, rules, limits
+abbrev pub rank_of : Code → ℕ
+rank_of NotUtf8 = 0
+rank_of BadChar = 1
+rank_of OpenComment = 2
+rank_of OpenText = 3
+rank_of WideNumber = 4
+rank_of LongName = 5
+rank_of Syntax = 6
+rank_of FloatType = 7
+rank_of UnknownAttribute = 8
+rank_of TooDeep = 9
+rank_of BadAttribute = 10
+rank_of ConstructorName = 11
+rank_of DoubleConstructor = 12
+rank_of DuplicateName = 13
+rank_of UnknownType = 14
+rank_of WrongArity = 15
+rank_of SynthesisClash = 16
+rank_of Unresolved = 17
+rank_of WrongKind = 18
+rank_of NotClosed = 19
+rank_of DefaultMissing = 20
+rank_of EnumRepeat = 21
+rank_of FieldRepeat = 22
+rank_of ParamRepeat = 23
+rank_of EnumRange = 24
+rank_of StructEmpty = 25
+rank_of FieldType = 26
+rank_of StructCycle = 27
+rank_of UseKind = 28
+rank_of ExclusiveUse = 29
+rank_of ReferenceArgument = 30
+rank_of EventType = 31
+rank_of EventDelegate = 32
+rank_of OverloadArity = 33
+rank_of OverloadKind = 34
+rank_of MemberCase = 35
+rank_of AccessorClash = 36
+rank_of InterfaceWanted = 37
+rank_of RequiresCycle = 38
+rank_of MemberClash = 39
+rank_of StaticMembers = 40
+rank_of ConstructorArity = 41
+rank_of FactoryShape = 42
+rank_of NamespaceClash = 43
+rank_of DuplicateId = 44
+rank_of ManyTypes = 45
+rank_of ManyMembers = 46
+rank_of ManyParams = 47
+rank_of LongFullName = 48
+rank_of ManyNames = 49
+rank_of ManyUses = 50
+
+-- the name that texts give
+abbrev pub code_name : Code → List ℕ
+code_name NotUtf8 = codes "NotUtf8"
+code_name BadChar = codes "BadChar"
+code_name OpenComment = codes "OpenComment"
+code_name OpenText = codes "OpenText"
+code_name WideNumber = codes "WideNumber"
+code_name LongName = codes "LongName"
+code_name Syntax = codes "Syntax"
+code_name FloatType = codes "FloatType"
+code_name UnknownAttribute = codes "UnknownAttribute"
+code_name TooDeep = codes "TooDeep"
+code_name BadAttribute = codes "BadAttribute"
+code_name ConstructorName = codes "ConstructorName"
+code_name DoubleConstructor = codes "DoubleConstructor"
+code_name DuplicateName = codes "DuplicateName"
+code_name UnknownType = codes "UnknownType"
+code_name WrongArity = codes "WrongArity"
+code_name SynthesisClash = codes "SynthesisClash"
+code_name Unresolved = codes "Unresolved"
+code_name WrongKind = codes "WrongKind"
+code_name NotClosed = codes "NotClosed"
+code_name DefaultMissing = codes "DefaultMissing"
+code_name EnumRepeat = codes "EnumRepeat"
+code_name FieldRepeat = codes "FieldRepeat"
+code_name ParamRepeat = codes "ParamRepeat"
+code_name EnumRange = codes "EnumRange"
+code_name StructEmpty = codes "StructEmpty"
+code_name FieldType = codes "FieldType"
+code_name StructCycle = codes "StructCycle"
+code_name UseKind = codes "UseKind"
+code_name ExclusiveUse = codes "ExclusiveUse"
+code_name ReferenceArgument = codes "ReferenceArgument"
+code_name EventType = codes "EventType"
+code_name EventDelegate = codes "EventDelegate"
+code_name OverloadArity = codes "OverloadArity"
+code_name OverloadKind = codes "OverloadKind"
+code_name MemberCase = codes "MemberCase"
+code_name AccessorClash = codes "AccessorClash"
+code_name InterfaceWanted = codes "InterfaceWanted"
+code_name RequiresCycle = codes "RequiresCycle"
+code_name MemberClash = codes "MemberClash"
+code_name StaticMembers = codes "StaticMembers"
+code_name ConstructorArity = codes "ConstructorArity"
+code_name FactoryShape = codes "FactoryShape"
+code_name NamespaceClash = codes "NamespaceClash"
+code_name DuplicateId = codes "DuplicateId"
+code_name ManyTypes = codes "ManyTypes"
+code_name ManyMembers = codes "ManyMembers"
+code_name ManyParams = codes "ManyParams"
+code_name LongFullName = codes "LongFullName"
+code_name ManyNames = codes "ManyNames"
+code_name ManyUses = codes "ManyUses"

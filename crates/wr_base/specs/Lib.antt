@@ -1,0 +1,9 @@
+pub mod Codes
+pub mod Declarations
+pub mod Paths
+pub mod Uses
+pub mod Refusals
+pub mod Sets
+pub mod Normal
+pub mod Places
+pub mod Ids

@@ -1,0 +1,115 @@
+ghost use Rattle.std.specs.Prelude.{◌≡◌, ◌↔◌, ◌==◌, IsTrue, IfOk, IsSome, IfSome, length, nat_le, string_bytes};
+ghost use Rattle.std.specs.List.{list_all};
+ghost use Rattle.std.proofs.Common.{rules};
+ghost use Rattle.std.specs.Str.{bytes_eq};
+ghost use Rattle.std.specs.Cmp.Rules.{comparing};
+ghost use Rattle.wr_base.specs.Paths.{is_identifier, is_path, is_rest, is_start, parts_of};
+
+use std::alloc::{AllocError, Global};
+use std::marker::Model;
+
+/// Two or more identifiers joined by dots, as `Windows.Foundation`, which contracts see as its bytes.
+#[derive(Debug, Drop)]
+pub struct FullName {
+    text: String,
+}
+
+impl Model for FullName {
+    ghost use Rattle.std.specs.Prelude.{List, ℕ, IsTrue, string_bytes};
+    ghost use Rattle.wr_base.specs.Paths.{is_path};
+
+    ghost Value = { List ℕ };
+
+    ghost view = { λ n. string_bytes n.text };
+
+    ghost invariant = { λ n. IsTrue (is_path (string_bytes n.text)) };
+}
+
+fn tests_start(b: u8) -> bool
+    ensures { result ≡ is_start b }
+{
+    b.is_ascii_alphabetic() || b == b'_'
+}
+
+fn tests_rest(b: u8) -> bool
+    ensures { result ≡ is_rest b }
+{
+    tests_start(b) || b.is_ascii_digit()
+}
+
+/// Whether these bytes are an ASCII letter or `_`, and then letters, digits and `_`.
+pub fn tests_identifier(bytes: &[u8]) -> bool
+    ensures { result ≡ is_identifier bytes.now }
+{
+    match bytes.split_first() {
+        None => false,
+        Some((first, rest)) => tests_start(*first) && rest.iter().all(|b| tests_rest(*b)),
+    }
+}
+
+fn has_two_parts(bytes: &[u8]) -> bool
+    ensures { result ≡ nat_le 2 (length (parts_of bytes.now)) }
+{
+    bytes.split(|b| *b == b'.').count() >= 2
+}
+
+fn has_identifiers(bytes: &[u8]) -> bool
+    ensures { result ≡ list_all is_identifier (parts_of bytes.now) }
+{
+    bytes
+        .split(|b| *b == b'.')
+        .all(|part| tests_identifier(part))
+}
+
+fn tests_path(bytes: &[u8]) -> bool
+    ensures { result ≡ is_path bytes.now }
+{
+    has_two_parts(bytes) && has_identifiers(bytes)
+}
+
+impl FullName {
+    /// The full name with this text, where the text is one.
+    pub fn new(text: String) -> Option<FullName>
+        ensures some { IsSome result ↔ IsTrue (is_path (string_bytes text)) }
+        ensures value { IfSome result (λ n. n ≡ string_bytes text) }
+    {
+        if tests_path(text.as_bytes()) {
+            Some(FullName { text })
+        } else {
+            None
+        }
+    }
+
+    /// The text.
+    pub fn as_str(&self) -> &str
+        ensures value { result.now ≡ self.now }
+        ensures path { IsTrue (is_path self.now) }
+    {
+        self.text.as_str()
+    }
+
+    // The allocator of the text.
+    pub(crate) fn allocator(&self) -> Global {
+        *self.text.allocator()
+    }
+}
+
+impl Clone for FullName {
+    ghost is_clone = { λ a b. b ≡ a };
+
+    fn clone(&self) -> Result<FullName, AllocError> {
+        Ok(FullName {
+            text: self.text.clone()?,
+        })
+    }
+}
+
+impl PartialEq for FullName {
+    ghost eq = { bytes_eq };
+
+    ghost laws = { Prim.search (comparing, rules) };
+
+    fn eq(&self, other: &FullName) -> bool {
+        self.text.as_str() == other.text.as_str()
+    }
+}

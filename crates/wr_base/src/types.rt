@@ -1,0 +1,204 @@
+ghost use Rattle.std.specs.Prelude.{◌≡◌, ◌<◌, ◌≤◌, ◌+◌, ◌^◌, List, ℕ, length, map, slice_get, Some, Contains, IfOk, IfErr, IfSome, IfNone, OnOk, OnErr, vec_len};
+ghost use Rattle.std.specs.Option.{option_copied};
+ghost use Rattle.std.specs.Ordering.{nat_cmp};
+ghost use Rattle.std.specs.List.{AllAdjacentBelow};
+ghost use Rattle.std.specs.List.Sorted.{IsPermutation, IsSortedByKey};
+ghost use Rattle.std.specs.Cmp.Lexicographic.{slice_cmp};
+ghost use Rattle.wr_base.specs.Declarations.{name_of, Precedes, IsInOrder, FirstRepeat, IsOnce};
+ghost use Rattle.wr_base.specs.Sets.{set_by};
+ghost use Rattle.wr_base.specs.Uses.{text_of};
+ghost use Rattle.wr_base.specs.Normal.{normal, names_in_order};
+ghost use Rattle.wr_base.specs.Refusals.{IsRefusalOf};
+
+use crate::same::same_lists;
+use crate::sets::in_order;
+use crate::{Declaration, FullName, FullNames, Listed, Same, Stop, Uses};
+use sqlite_items::Items;
+use std::alloc::{AllocError, Global};
+use std::marker::Model;
+
+/// Declarations in the order of their full names by bytes, each name once.
+#[derive(Debug, Drop)]
+pub struct Types {
+    items: Vec<Declaration>,
+}
+
+impl Model for Types {
+    ghost use Rattle.std.specs.Prelude.{List};
+    ghost use Rattle.wr_base.specs.declared.declaration.Declaration.{Declaration};
+    ghost use Rattle.wr_base.specs.Declarations.{IsInOrder};
+    ghost use Rattle.std.specs.Coded.{codes};
+    ghost use Rattle.wr_base.specs.contracts.type_use.TypeUse as uses;
+
+    ghost Value = { List Declaration };
+
+    ghost coded = { Prim.hlevel (codes, uses.the_row.coded) };
+
+    ghost view = { λ t. t.items.items };
+
+    ghost invariant = { λ t. IsInOrder t.items.items };
+}
+
+fn sort_by_name(list: &mut Vec<Declaration>) -> Result<(), AllocError>
+    ensures permutation { IsPermutation list.old.items list.new.items }
+    ensures sorted { OnOk result (IsSortedByKey name_of (slice_cmp nat_cmp) list.new.items) }
+{
+    list.sort_by(|a, b| a.name().as_str().cmp(b.name().as_str()))?;
+    Ok(())
+}
+
+// The first place whose name is that of the next one, in a list in the order of names.
+fn first_repeat(list: &[Declaration]) -> Option<usize>
+    requires { IsSortedByKey name_of (slice_cmp nat_cmp) list.now }
+    ensures none { IfNone result (AllAdjacentBelow Precedes list.now (length list.now)) }
+    ensures some { IfSome result (FirstRepeat list.now) }
+{
+    if list.len() < 2 {
+        return None;
+    }
+    for i in 1..list.len() {
+        if *list[i - 1].name() == *list[i].name() {
+            return Some(i - 1);
+        }
+    }
+    None
+}
+
+fn uses_in_order(alloc: Global, uses: Uses) -> Result<Uses, AllocError>
+    ensures { IfOk result (λ set. set ≡ set_by text_of uses) }
+{
+    Ok(Items::from_vec(in_order(alloc, uses)?))
+}
+
+fn names_by_bytes(alloc: Global, names: FullNames) -> Result<FullNames, AllocError>
+    ensures { IfOk result (λ set. set ≡ names_in_order names) }
+{
+    let items = Items::from_vec(names.into_vec());
+    Ok(Listed::from_vec(in_order(alloc, items)?))
+}
+
+// Its lists that stand for sets are put in order.
+fn in_sets(alloc: Global, declaration: Declaration) -> Result<Declaration, AllocError>
+    ensures { IfOk result (λ done. done ≡ normal declaration) }
+{
+    match declaration {
+        Declaration::Interface {
+            name,
+            version,
+            id,
+            owner,
+            requires_,
+            members,
+        } => Ok(Declaration::Interface {
+            name,
+            version,
+            id,
+            owner,
+            requires_: uses_in_order(alloc, requires_)?,
+            members,
+        }),
+        Declaration::Class {
+            name,
+            version,
+            fixed,
+            default,
+            has,
+            direct,
+            factories,
+            statics,
+        } => Ok(Declaration::Class {
+            name,
+            version,
+            fixed,
+            default,
+            has: uses_in_order(alloc, has)?,
+            direct,
+            factories: names_by_bytes(alloc, factories)?,
+            statics: names_by_bytes(alloc, statics)?,
+        }),
+        other => Ok(other),
+    }
+}
+
+fn all_in_sets(alloc: Global, list: Vec<Declaration>) -> Result<Vec<Declaration>, AllocError>
+    ensures { IfOk result (λ done. done.items ≡ map normal list.items) }
+{
+    let mut done = Vec::new(alloc);
+    for declaration in list {
+        done.push(in_sets(alloc, declaration)?)?;
+    }
+    Ok(done)
+}
+
+impl Types {
+    /// Puts the declarations and their lists of names and uses in order. Refused is the least full name that stands twice.
+    pub fn from_list(alloc: Global, list: Vec<Declaration>) -> Result<Types, Stop<FullName>>
+        requires { length list.items < 2 ^ 32 }
+        ensures ok { IfOk result (λ types. IsPermutation (map normal list.items) types) }
+        ensures order { IfOk result IsInOrder }
+        ensures once { OnOk result (IsOnce list.items) }
+        ensures refused { IfErr result (IsRefusalOf list.items) }
+    {
+        let mut list = match all_in_sets(alloc, list) {
+            Ok(list) => list,
+            Err(_) => return Err(Stop::Memory),
+        };
+        if let Err(_) = sort_by_name(&mut list) {
+            return Err(Stop::Memory);
+        }
+        match first_repeat(&list) {
+            None => Ok(Types { items: list }),
+            Some(at) => match list[at].name().clone() {
+                Ok(name) => Err(Stop::Refused(name)),
+                Err(_) => Err(Stop::Memory),
+            },
+        }
+    }
+
+    /// How many declarations there are.
+    pub fn len(&self) -> u32
+        ensures len { result ≡ length self.now }
+        ensures order { IsInOrder self.now }
+    {
+        self.items.len() as u32
+    }
+
+    /// The declaration at a place, from 0.
+    pub fn at(&self, i: u32) -> &Declaration
+        requires { i < length self.now }
+        ensures { slice_get self.now i ≡ Some result.now }
+    {
+        &self.items[i as usize]
+    }
+
+    /// The place of the declaration of this full name.
+    pub fn find(&self, name: &FullName) -> Option<u32>
+        ensures found { IfSome result (λ i. slice_get (map name_of self.now) i ≡ Some name.now) }
+        ensures absent { IfNone result (¬ (Contains (map name_of self.now) name.now)) }
+    {
+        match self
+            .items
+            .as_slice()
+            .binary_search_by(|d| d.name().as_str().cmp(name.as_str()))
+        {
+            Ok(at) => Some(at as u32),
+            Err(_) => None,
+        }
+    }
+}
+
+impl Clone for Types {
+    ghost is_clone = { λ a b. b ≡ a };
+
+    fn clone(&self) -> Result<Types, AllocError> {
+        Ok(Types {
+            items: self.items.clone()?,
+        })
+    }
+}
+
+impl Same for Types {
+    fn same(&self, other: &Types) -> bool {
+        same_lists(self.items.as_slice(), other.items.as_slice())
+    }
+}

@@ -1,0 +1,5 @@
+pub mod Cause
+pub mod Files
+pub mod Whole
+pub mod Named
+pub mod Listed
