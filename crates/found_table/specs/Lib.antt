@@ -1,0 +1,3 @@
+pub mod Found
+pub mod Views
+pub mod Table

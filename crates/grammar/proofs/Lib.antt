@@ -1,0 +1,14 @@
+pub mod KindSets
+pub mod ReaderLaws
+pub mod Choices
+pub mod Repeats
+pub mod Whole
+pub mod Loops
+pub mod Algebra
+pub mod Trails
+pub mod Depths
+pub mod Bars
+pub mod Limits
+pub mod Refusals
+pub mod Codes
+pub mod Keeps

@@ -1,0 +1,59 @@
+//! Numbers as bytes, low byte first.
+
+ghost use Rattle.std.specs.Prelude.{◌≡◌, ◌≤◌, ◌++◌, OnOk, length};
+ghost use Rattle.md_bytes.specs.Bytes.{le};
+ghost use Rattle.md_bytes.specs.Bytes as bytes_as;
+
+use std::alloc::AllocError;
+
+/// Writes a number at the end of `out`, low byte first, in `width` bytes; what doesn't fit them is left away.
+/// After want of memory some of the bytes may be written.
+pub fn put_number(out: &mut Vec<u8>, width: u32, n: u32) -> Result<(), AllocError>
+    ensures ok { OnOk result (out.new.items ≡ out.old.items ++ le width n) }
+{
+    let mut rest = n;
+    for _ in 0..width {
+        out.push((rest % 256) as u8)?;
+        rest /= 256;
+    }
+    Ok(())
+}
+
+/// The number that up to four bytes are, low byte first.
+pub fn number(bytes: &[u8]) -> u32
+    requires { length bytes.now ≤ 4 }
+    ensures { result ≡ bytes_as.number bytes.now }
+{
+    match bytes {
+        [] => 0,
+        [a] => *a as u32,
+        [a, b] => *a as u32 + 256 * (*b as u32),
+        [a, b, c] => *a as u32 + 256 * (*b as u32 + 256 * (*c as u32)),
+        [a, b, c, d, ..] => {
+            *a as u32 + 256 * (*b as u32 + 256 * (*c as u32 + 256 * (*d as u32)))
+        }
+    }
+}
+
+#[cfg(test)]
+mod tests {
+    use super::*;
+    use std::test::Fail;
+
+    #[test]
+    fn low_byte_first(rt: HostRuntime) -> Result<(), Fail> {
+        let mut out = Vec::new(rt.alloc());
+        put_number(&mut out, 1, 0x7F)?;
+        put_number(&mut out, 2, 0x1234)?;
+        put_number(&mut out, 4, 0x89AB_CDEF)?;
+        assert_eq!(rt;
+            out.as_slice(),
+            [0x7F, 0x34, 0x12, 0xEF, 0xCD, 0xAB, 0x89].as_slice()
+        );
+        assert_eq!(rt; number(&[]), 0);
+        assert_eq!(rt; number(&[0x7F]), 127);
+        assert_eq!(rt; number(&[0x34, 0x12]), 0x1234);
+        assert_eq!(rt; number(&[0xEF, 0xCD, 0xAB, 0x89]), 0x89AB_CDEF);
+        Ok(())
+    }
+}

@@ -1,0 +1,4 @@
+pub mod BlobLaws
+pub mod GuidLaws
+pub mod HeapLaws
+pub mod TextLaws

@@ -1,0 +1,6 @@
+pub mod Blobs
+pub mod Integers
+pub mod Faults
+pub mod Guids
+pub mod Heaps
+pub mod Texts

@@ -1,0 +1,128 @@
+//! `#Blob`: blobs behind their lengths (ECMA-335 II.24.2.4).
+ghost use Rattle.std.specs.Prelude.{◌≡◌, ◌+◌, ◌<◌, ◌≤◌, ◌^◌, ◌-◌, ◌↔◌, ◌⊎◌, ℕ, List, None, Some, Ok, Err, length, drop, OnErr, IfOk, IfErr, IsOkAnd};
+ghost use Rattle.md_heaps.specs.Blobs.{BlobAt, EndsPast, blob_bytes, first_blob};
+ghost use Rattle.md_heaps.specs.Integers.{HasBadLead, IsCut, compressed_of, shortest};
+ghost use Rattle.md_heaps.specs.Faults.{fault_at as fault_there, past_heap};
+ghost use Rattle.md_heaps.specs.Heaps.{index_of, with_entry, length_with, EachStands, Keeps};
+
+use crate::faults::fault_at;
+use crate::integers::{compressed, put_compressed};
+use crate::parts::{part, tail};
+use crate::store::{HeapFull, Store};
+use md_schema::{ImageFault, ImageKind};
+use ranked::{Memory, Stop};
+use std::alloc::Global;
+use std::marker::Model;
+
+/// The blobs of an image that is being written. The empty blob is at 0.
+#[derive(Drop)]
+pub struct BlobHeap {
+    store: Store,
+    alloc: Global,
+}
+
+impl Model for BlobHeap {
+    ghost use Rattle.md_heaps.specs.Heaps.{Heap, EachStands};
+    ghost use Rattle.md_heaps.specs.Blobs.{BlobAt};
+
+    ghost Value = { Heap };
+
+    ghost view = { λ h. h.store };
+
+    ghost invariant = { λ h. EachStands BlobAt h.store };
+}
+
+impl BlobHeap {
+    /// A heap with the empty blob.
+    pub fn new(alloc: Global) -> Result<BlobHeap, Memory>
+        ensures { IfOk result (λ heap. heap ≡ first_blob) }
+    {
+        let mut store = Store::new(alloc);
+        store.add(&[0], &[], &[], 0)?;
+        Ok(BlobHeap { store, alloc })
+    }
+
+    /// The bytes so far. They end with the last blob, without padding.
+    pub fn bytes(&self) -> &[u8]
+        ensures bytes { result.now ≡ self.now.bytes }
+        ensures small { length self.now.bytes < 2 ^ 29 }
+        ensures standing { EachStands BlobAt self.now }
+    {
+        self.store.bytes()
+    }
+
+    /// The index of a blob, which goes to the end of the heap if it isn't there yet. A heap has at most 2^29 - 1 bytes.
+    pub fn intern(&mut self, blob: &[u8]) -> Result<u32, Stop<HeapFull>>
+        requires { length blob.now ≤ 2 ^ 29 - 5 }
+        ensures known { (at : ℕ) → index_of self.old blob.now ≡ Some at → (result ≡ Ok at) × (self.new ≡ self.old) }
+        ensures added { index_of self.old blob.now ≡ None → IfOk result (λ at. (at ≡ length self.old.bytes) × (self.new ≡ with_entry self.old blob.now (blob_bytes blob.now) at)) }
+        ensures full { (why : HeapFull) → (result ≡ Err (Stop.Refused why)) ↔ (index_of self.old blob.now ≡ None) × (2 ^ 29 - 1 < why.length) × (why.length ≡ length_with self.old (blob_bytes blob.now)) }
+        ensures unchanged { OnErr result (self.new ≡ self.old) }
+        ensures stands { IfOk result (λ at. BlobAt self.new.bytes at blob.now) }
+        ensures keeps { Keeps BlobAt self.old self.new }
+    {
+        if let Some(at) = self.store.find(blob) {
+            return Ok(at);
+        }
+        match self.store.room(written_length(blob.len() as u32)) {
+            Ok(at) => {
+                let mut lead = Vec::new(self.alloc);
+                put_compressed(&mut lead, blob.len() as u32)?;
+                self.store.add(lead.as_slice(), blob, &[], at)?;
+                Ok(at)
+            }
+            Err(full) => Err(Stop::Refused(full)),
+        }
+    }
+}
+
+// How many bytes a blob takes, with its length in front.
+fn written_length(count: u32) -> u64
+    ensures { result ≡ length (shortest count) + count }
+{
+    let lead = if count < 0x80 {
+        1
+    } else if count < 0x4000 {
+        2
+    } else {
+        4
+    };
+    lead + count as u64
+}
+
+// The count of the bytes of the blob at an index, and how many bytes that count takes.
+fn count_at(heap: &[u8], at: u32) -> Result<(u32, u32), ImageFault>
+    requires { at < length heap.now }
+    ensures count { IfOk result (λ found. (compressed_of (drop at heap.now) ≡ Ok found) × (found.1 ≤ length (drop at heap.now))) }
+    ensures none { (count size : ℕ) → compressed_of (drop at heap.now) ≡ Ok (count, size) → result ≡ Ok (count, size) }
+    ensures bad_lead { (result ≡ Err (fault_there ImageKind.BadLead at)) ↔ HasBadLead (drop at heap.now) }
+    ensures short { (result ≡ Err (fault_there ImageKind.Short at)) ↔ IsCut (drop at heap.now) }
+    ensures faults { IfErr result (λ fault. (fault ≡ fault_there ImageKind.BadLead at) ⊎ (fault ≡ fault_there ImageKind.Short at)) }
+{
+    match compressed(tail(heap, at as usize)) {
+        Ok(found) => Ok(found),
+        Err(fault) => Err(fault_at(fault.kind, at)),
+    }
+}
+
+/// The blob at an index of `#Blob`, without its length (II.24.2.4). The length may have any of its forms.
+pub fn blob_at(heap: &[u8], at: u32) -> Result<&[u8], ImageFault>
+    ensures blob { IfOk result (λ blob. BlobAt heap.now at blob.now) }
+    ensures found { (blob : List ℕ) → BlobAt heap.now at blob → IsOkAnd result (λ found. found.now ≡ blob) }
+    ensures range { (result ≡ Err past_heap) ↔ (length heap.now ≤ at) }
+    ensures bad_lead { (result ≡ Err (fault_there ImageKind.BadLead at)) ↔ HasBadLead (drop at heap.now) }
+    ensures short { (result ≡ Err (fault_there ImageKind.Short at)) ↔ (at < length heap.now) × IsCut (drop at heap.now) }
+    ensures bad_length { (result ≡ Err (fault_there ImageKind.BadLength at)) ↔ (at < length heap.now) × EndsPast heap.now at }
+    ensures faults { IfErr result (λ fault. (fault ≡ past_heap) ⊎ ((fault ≡ fault_there ImageKind.BadLead at) ⊎ ((fault ≡ fault_there ImageKind.Short at) ⊎ (fault ≡ fault_there ImageKind.BadLength at)))) }
+{
+    if at as usize >= heap.len() {
+        return Err(fault_at(ImageKind::HeapRange, 0));
+    }
+    match count_at(heap, at) {
+        Err(fault) => Err(fault),
+        Ok((count, size)) => match part(heap, at as usize + size as usize, count as usize) {
+            Some(blob) => Ok(blob),
+            None => Err(fault_at(ImageKind::BadLength, at)),
+        },
+    }
+}

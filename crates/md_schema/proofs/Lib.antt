@@ -1,0 +1,3 @@
+pub mod CodesLemmas
+pub mod CountLemmas
+pub mod TablesLemmas

@@ -1,0 +1,6 @@
+pub mod Schema
+pub mod Widths
+pub mod Codes
+pub mod Streams
+pub mod Tables
+pub mod Written

@@ -1,0 +1,10 @@
+pub mod Classes
+pub mod Ends
+pub mod Values
+pub mod Scans
+pub mod Steps
+pub mod Cutting
+pub mod Valid
+pub mod Firsts
+pub mod Outcomes
+pub mod Entering

@@ -1,0 +1,11 @@
+pub mod Bytes
+pub mod Comments
+pub mod Numbers
+pub mod Guids
+pub mod Scan
+pub mod Lexemes
+pub mod Tokens
+pub mod Faults
+pub mod Next
+pub mod Laws
+pub mod Entries

@@ -1,0 +1,9 @@
+pub mod Laws
+pub mod Turns
+pub mod CaseTurns
+pub mod FromLexing
+pub mod FromTree
+pub mod Numbering
+pub mod Paths
+pub mod Distinct
+pub mod Wholes

@@ -1,0 +1,12 @@
+pub mod Kinds
+pub mod Symbols
+pub mod Words
+pub mod Trees
+pub mod Grammar
+pub mod Reading
+pub mod Views
+pub mod Lexed
+pub mod Values
+pub mod Form
+pub mod Plain
+pub mod Spelled

@@ -1,0 +1,115 @@
+//! Enums, and files that hold one.
+
+ghost use Rattle.std.specs.Prelude.{◌≡◌};
+ghost use Rattle.grammar.specs.Readers.{after_front};
+ghost use Rattle.midl_parse.specs.Reading.{Gives, value_at, case_at, more_cases_at, cases_at, enum_at, enum_file_at, whole_at};
+ghost use Rattle.midl_parse.specs.Views.{enum_view, file_view};
+
+use crate::kind::Kind;
+use crate::reading::{begins, begins_name, dotted_of, take, take_if, take_name, take_own_name};
+use crate::stop::{Code, Stop};
+use crate::symbol::Terminal;
+use crate::tree::{CaseNode, EnumFile, EnumNode, Value};
+use std::alloc::Global;
+
+#[tactic(auto, unfolding(crate::specs::Reading::value_at))]
+fn value_of(tokens: &[Terminal]) -> Result<(Value, &[Terminal]), Stop>
+    ensures { Gives (λ x. (x.0, x.1.now)) result (value_at tokens.now) }
+{
+    let (_, rest) = take(tokens, Kind::Equals)?;
+    let (negated, rest) = take_if(rest, Kind::Minus);
+    let (number, rest) = take(rest, Kind::Number)?;
+    let number = number.clone()?;
+    Ok((Value { negated, number }, rest))
+}
+
+#[tactic(auto, unfolding(crate::specs::Reading::case_at))]
+fn case_of(tokens: &[Terminal]) -> Result<(CaseNode, &[Terminal]), Stop>
+    ensures { Gives (λ x. (x.0, x.1.now)) result (case_at tokens.now) }
+{
+    let (name, rest) = take_name(tokens)?;
+    if begins(rest, Kind::Equals) {
+        let (value, rest) = value_of(rest)?;
+        return Ok((
+            CaseNode {
+                name,
+                value: Some(value),
+            },
+            rest,
+        ));
+    }
+    Ok((CaseNode { name, value: None }, rest))
+}
+
+fn more_cases(
+    mut cases: Vec<CaseNode>,
+    tokens: &[Terminal],
+) -> Result<(Vec<CaseNode>, &[Terminal]), Stop>
+    ensures { Gives (λ x. (x.0.items, x.1.now)) result (after_front cases.items more_cases_at tokens.entry.now) }
+{
+    let mut rest = tokens;
+    'more: while begins(rest, Kind::Comma) {
+        let (_, after) = take(rest, Kind::Comma)?;
+        if !begins_name(after) {
+            return Ok((cases, after));
+        }
+        let (case, after) = case_of(after)?;
+        cases.push(case)?;
+        rest = after;
+    }
+    Ok((cases, rest))
+}
+
+#[tactic(auto, unfolding(crate::specs::Reading::cases_at))]
+fn cases_of(alloc: Global, tokens: &[Terminal]) -> Result<(Vec<CaseNode>, &[Terminal]), Stop>
+    ensures { Gives (λ x. (x.0.items, x.1.now)) result (cases_at tokens.now) }
+{
+    let (first, rest) = case_of(tokens)?;
+    let mut cases = Vec::new(alloc);
+    cases.push(first)?;
+    more_cases(cases, rest)
+}
+
+#[tactic(auto, unfolding(crate::specs::Reading::enum_at))]
+fn enum_of(alloc: Global, tokens: &[Terminal]) -> Result<(EnumNode, &[Terminal]), Stop>
+    ensures { Gives (λ x. (enum_view x.0, x.1.now)) result (enum_at tokens.now) }
+{
+    let (_, rest) = take(tokens, Kind::Enum)?;
+    let (name, rest) = take_own_name(rest)?;
+    let (_, rest) = take(rest, Kind::OpenBrace)?;
+    if begins_name(rest) {
+        let (cases, rest) = cases_of(alloc, rest)?;
+        let (_, rest) = take(rest, Kind::CloseBrace)?;
+        let (_, rest) = take_if(rest, Kind::Semicolon);
+        return Ok((EnumNode { name, cases }, rest));
+    }
+    let (_, rest) = take(rest, Kind::CloseBrace)?;
+    let (_, rest) = take_if(rest, Kind::Semicolon);
+    let cases = Vec::new(alloc);
+    Ok((EnumNode { name, cases }, rest))
+}
+
+#[tactic(auto, unfolding(crate::specs::Reading::enum_file_at))]
+fn enum_file_of(alloc: Global, tokens: &[Terminal]) -> Result<(EnumFile, &[Terminal]), Stop>
+    ensures { Gives (λ x. (file_view x.0, x.1.now)) result (enum_file_at tokens.now) }
+{
+    let (_, rest) = take(tokens, Kind::Namespace)?;
+    let (space, rest) = dotted_of(alloc, rest)?;
+    let (_, rest) = take(rest, Kind::OpenBrace)?;
+    let (declared, rest) = enum_of(alloc, rest)?;
+    let (_, rest) = take(rest, Kind::CloseBrace)?;
+    let (_, rest) = take_if(rest, Kind::Semicolon);
+    Ok((EnumFile { space, declared }, rest))
+}
+
+/// All tokens of a file as one namespace with one enum.
+#[tactic(auto, unfolding(crate::specs::Reading::whole_at))]
+pub(crate) fn whole_of(alloc: Global, tokens: &[Terminal]) -> Result<EnumFile, Stop>
+    ensures { Gives file_view result (whole_at tokens.now) }
+{
+    let (file, rest) = enum_file_of(alloc, tokens)?;
+    match rest {
+        [] => Ok(file),
+        [_, ..] => Err(Stop::Fault(Code::Syntax, rest.len())),
+    }
+}

@@ -1,0 +1,5 @@
+//! Tests of the parser of MIDL text, apart from it so that an edit of a test doesn't prove the parser anew.
+#![tactic(auto)]
+
+#[cfg(test)]
+mod tests;
