@@ -7,30 +7,11 @@
 # At 500000 each time is to be below 1000 ms, and at 2N below 2.3 times as long as at N.
 set -eu
 count=${1:-500000}
-root=$(cd "$(dirname "$0")/.." && pwd)
-work=$(mktemp -d)
-trap 'rm -rf "$work"' EXIT
-
-mkdir "$work/crates"
-cp "$root/crates.txt" "$root/HANDLES" "$work/"
-for crate in "$root"/crates/*/; do
-    name=$(basename "$crate")
-    mkdir "$work/crates/$name"
-    for part in src specs proofs; do
-        [ ! -d "$crate/$part" ] || cp -R "$crate/$part" "$work/crates/$name/"
-    done
-done
-
-# program NAME 'DEP DEP ..' < main.rt: a program over these crates
-program() {
-    echo "$1: $2" >> "$work/crates.txt"
-    mkdir -p "$work/crates/$1/src"
-    cat > "$work/crates/$1/src/main.rt"
-}
+. "$(dirname "$0")/programs.sh"
 
 # timed NAME TITLE: builds the program, and prints its line at N and at 2N
 timed() {
-    (cd "$work/crates/$1" && rt run -- 1) > "$work/built" 2>&1 || { cat "$work/built" >&2; exit 1; }
+    built "$1" 1
     echo "$2"
     "$work/crates/$1/out/$1" "$count"
     "$work/crates/$1/out/$1" $((2 * count))

@@ -1,0 +1,11 @@
+-- Each text and blob stands at its place.
+use Rattle.enum_image.specs.declared.heap.Framing.TheVariants.{Text}
+use Rattle.enum_image.proofs.tables.put_type_defs.Goals as goal
+
+pub returns : goal.returns
+returns c = λ entries h.
+    let e0 = c.place-module.ensures Text entries.texts h.texts in
+    let e1 = c.place-none.ensures Text entries.texts h.texts in
+    let e2 = c.place-own_name.ensures Text entries.texts h.texts in
+    let e3 = c.place-own_space.ensures Text entries.texts h.texts in
+    rw (← e0, ← e1, ← e2, ← e3) c.put_rows.ensures

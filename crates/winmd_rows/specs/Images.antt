@@ -1,0 +1,56 @@
+-- The image that holds rows, byte for byte.
+use Rattle.std.specs.Prelude.{ℕ, List, [], ◌∷◌, length, map, nat_le, false, Option, Some, None}
+use Rattle.std.specs.List.{flat_map}
+use Rattle.md_schema.specs.declared.table.Table.{Table}
+use Rattle.md_schema.specs.declared.table.Table.TheVariants as tables
+use Rattle.md_schema.specs.declared.sizes.Sizes.{Sizes}
+use Rattle.wr_base.specs.declared.declaration.Declaration.{Declaration}
+use Rattle.winmd_rows.specs.Values.{Value}
+use Rattle.winmd_rows.specs.Entries.{Entries, text_entry, blob_entry, entries_of, texts_in, blobs_in, numbers_of}
+use Rattle.md_schema.specs.Written.{table_bytes}
+use Rattle.winmd_rows.specs.Spelled.{Parts, parts_of, image_bytes, padded}
+use Rattle.winmd_rows.specs.Written.{rows_of}
+
+-- the table of each number from 0 to 0x2C; some numbers have none
+abbrev pub numbered_tables : List (Option Table)
+numbered_tables =
+    Some tables.Module ∷ Some tables.TypeRef ∷ Some tables.TypeDef ∷ None ∷ Some tables.Field ∷ None ∷ Some tables.MethodDef ∷ None ∷
+    Some tables.Param ∷ Some tables.InterfaceImpl ∷ Some tables.MemberRef ∷ Some tables.Constant ∷ Some tables.CustomAttribute ∷ Some tables.FieldMarshal ∷
+    Some tables.DeclSecurity ∷ Some tables.ClassLayout ∷ Some tables.FieldLayout ∷ Some tables.StandAloneSig ∷ Some tables.EventMap ∷ None ∷ Some tables.Event ∷
+    Some tables.PropertyMap ∷ None ∷ Some tables.Property ∷ Some tables.MethodSemantics ∷ Some tables.MethodImpl ∷ Some tables.ModuleRef ∷ Some tables.TypeSpec ∷
+    Some tables.ImplMap ∷ Some tables.FieldRva ∷ None ∷ None ∷ Some tables.Assembly ∷ Some tables.AssemblyProcessor ∷ Some tables.AssemblyOs ∷
+    Some tables.AssemblyRef ∷ Some tables.AssemblyRefProcessor ∷ Some tables.AssemblyRefOs ∷ Some tables.File ∷ Some tables.ExportedType ∷ Some tables.ManifestResource ∷
+    Some tables.NestedClass ∷ Some tables.GenericParam ∷ Some tables.MethodSpec ∷ Some tables.GenericParamConstraint ∷ []
+
+-- how many rows stand at a number; none where the number has no table
+abbrev pub rows_at : {A : Type 0} → (Table → List A) → Option Table → ℕ
+rows_at rows None = 0
+rows_at rows (Some table) = length (rows table)
+
+-- the bytes of heaps with these entries
+abbrev pub text_heap : List (List ℕ) → List ℕ
+text_heap texts = padded (flat_map text_entry texts)
+
+abbrev pub blob_heap : List (List ℕ) → List ℕ
+blob_heap blobs = padded (flat_map blob_entry blobs)
+
+-- which heaps are long, and how many rows each table has
+abbrev pub sizes_for : Entries → (Table → List (List Value)) → Sizes
+sizes_for entries rows = record {
+  long_texts = nat_le 0x10000 (length (text_heap entries.texts));
+  long_guids = false;
+  long_blobs = nat_le 0x10000 (length (blob_heap entries.blobs));
+  rows = map (rows_at rows) numbered_tables;
+}
+
+-- the streams of an image with these rows, whose texts and blobs stand in heaps with these entries
+abbrev pub parts_with : Entries → (Table → List (List Value)) → Parts
+parts_with entries rows = parts_of (padded (table_bytes (sizes_for entries rows) (numbers_of entries rows))) (text_heap entries.texts) (blob_heap entries.blobs)
+
+-- the entries of rows, each once, in the order of first use
+abbrev pub entries_for : (Table → List (List Value)) → Entries
+entries_for rows = record { texts = entries_of (texts_in rows); blobs = entries_of (blobs_in rows) }
+
+-- The image that a declaration is written as.
+abbrev pub image_of : Declaration → List ℕ
+image_of declaration = image_bytes (parts_with (entries_for (rows_of declaration)) (rows_of declaration))

@@ -1,0 +1,10 @@
+pub mod Faults
+pub mod Heaps
+pub mod Values
+pub mod Types
+pub mod Spelled
+pub mod Entries
+pub mod Written
+pub mod Fits
+pub mod Images
+pub mod Streams

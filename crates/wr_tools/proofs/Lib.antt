@@ -1,0 +1,4 @@
+pub mod FitLemmas
+pub mod SayLemmas
+pub mod EndLemmas
+pub mod MidlLemmas

@@ -1,0 +1,9 @@
+pub mod Outside
+pub mod Reply
+pub mod Command
+pub mod Lines
+pub mod Answers
+pub mod Compile
+pub mod Words
+pub mod Midl
+pub mod Says

@@ -1,0 +1,22 @@
+-- The store and the sinks as the tool finds and leaves them.
+use Rattle.std.specs.Prelude.{◌≡◌, ℕ, ◌≤◌, Option, List, IfSome}
+use Rattle.wr_outside.specs.Files.{Files}
+
+-- what the store and the sinks tell at one moment, and their counts of faults
+pub record Outside : Type 0 where
+  pub held : Option Files
+  pub out : Option (List ℕ)
+  pub err : Option (List ℕ)
+  pub store_faults : ℕ
+  pub out_faults : ℕ
+  pub err_faults : ℕ
+
+-- no count of faults falls
+pub record CountsRise (before after : Outside) : Type 0 where
+  pub store : before.store_faults ≤ after.store_faults
+  pub out : before.out_faults ≤ after.out_faults
+  pub err : before.err_faults ≤ after.err_faults
+
+-- these are the files of the store, as far as it tells them
+abbrev pub MayHold : Option Files → Files → Type 0
+MayHold held files = IfSome held (λ told. told ≡ files)
