@@ -5,6 +5,8 @@ use Rattle.wr_base.specs.declared.declaration.Declaration.{Declaration}
 use Rattle.wr_base.specs.declared.declaration.Declaration.TheVariants.{Enum, Struct, Delegate, Interface, Class}
 use Rattle.midl_parse.specs.Form.{InForm}
 use Rattle.midl_parse.specs.Plain.{CaseIsPlain, IsPlain}
+use Rattle.winmd_rows.specs.Images.{image_of}
+use Rattle.wr_tools.specs.Compile.{Image}
 use Rattle.winmd_rows.specs.Fits.{CaseFits, Fits}
 
 case_fits : (c : Case) → CaseIsPlain c → CaseFits c
@@ -41,6 +43,15 @@ first_fits source found types first is form plain at =
     let one : FormOf source (Some types) = subst (FormOf source) is form in
     let each : PlainOf (Some types) = subst PlainOf is plain in
     subst Fits (same_one types one.0 first one.2 at) (fits one.0 (each one.0 one.2))
+
+-- the bytes of its image
+pub image_found : (source : List ℕ) (found : Option (List Declaration)) (types : List Declaration) (first : Declaration) (bytes : List ℕ)
+    → found ≡ Some types → FormOf source found → slice_get types 0 ≡ Some first → bytes ≡ image_of first
+    → (d : Declaration) × InForm source d × Image d bytes
+unfolding Image
+image_found source found types first bytes is form at e =
+    let one : FormOf source (Some types) = subst (FormOf source) is form in
+    (one.0, one.1, e ∙ ap (λ d. image_of d) (sym (same_one types one.0 first one.2 at)))
 
 pub none_found : (source : List ℕ) (found : Option (List Declaration)) → found ≡ None → FormOf source found → (d : Declaration) → InForm source d → ⊥
 none_found source found is form = subst (FormOf source) is form

@@ -6,7 +6,7 @@ use Rattle.midl_parse.specs.Form.{InForm}
 use Rattle.winmd_rows.specs.Images.{image_of}
 
 -- these bytes are an image of the declaration
-abbrev pub Image : Declaration → List ℕ → Type 0
+unfoldable pub Image : Declaration → List ℕ → Type 0
 Image declaration bytes = bytes ≡ image_of declaration
 
 -- the image of the declaration that the source states, or none where it is in no form
