@@ -5,9 +5,11 @@ use Rattle.wr_base.specs.declared.declaration.Declaration.{Declaration}
 use Rattle.wr_base.specs.declared.declaration.Declaration.TheVariants.{Enum, Struct, Delegate, Interface, Class}
 use Rattle.midl_parse.specs.Form.{InForm}
 use Rattle.midl_parse.specs.Plain.{CaseIsPlain, IsPlain}
-use Rattle.winmd_rows.specs.Images.{image_of}
-use Rattle.wr_tools.specs.Compile.{Image}
+use Rattle.winmd_laws.proofs.Writers.{image_strict, image_states_it}
+use Rattle.winmd_laws.specs.Meaning.{Strict, TypesOf}
 use Rattle.winmd_rows.specs.Fits.{CaseFits, Fits}
+use Rattle.winmd_rows.specs.Images.{image_of}
+use Rattle.wr_tools.specs.Compile.{Compiles, Image}
 
 case_fits : (c : Case) → CaseIsPlain c → CaseFits c
 case_fits c p = record { named = p.named; short = p.short; value = record { low = p.value.low; high = p.value.high } }
@@ -44,14 +46,22 @@ first_fits source found types first is form plain at =
     let each : PlainOf (Some types) = subst PlainOf is plain in
     subst Fits (same_one types one.0 first one.2 at) (fits one.0 (each one.0 one.2))
 
--- the bytes of its image
-pub image_found : (source : List ℕ) (found : Option (List Declaration)) (types : List Declaration) (first : Declaration) (bytes : List ℕ)
-    → found ≡ Some types → FormOf source found → slice_get types 0 ≡ Some first → bytes ≡ image_of first
-    → (d : Declaration) × InForm source d × Image d bytes
-unfolding Image
-image_found source found types first bytes is form at e =
-    let one : FormOf source (Some types) = subst (FormOf source) is form in
-    (one.0, one.1, e ∙ ap (λ d. image_of d) (sym (same_one types one.0 first one.2 at)))
-
 pub none_found : (source : List ℕ) (found : Option (List Declaration)) → found ≡ None → FormOf source found → (d : Declaration) → InForm source d → ⊥
 none_found source found is form = subst (FormOf source) is form
+
+-- the bytes of an image that can be written
+image_holds : (declaration : Declaration) (bytes : List ℕ) → Fits declaration → bytes ≡ image_of declaration → Image declaration bytes
+image_holds declaration bytes h e = record {
+  written = e;
+  strict = subst Strict (sym e) (image_strict declaration h);
+  states = ap TypesOf e ∙ image_states_it declaration h;
+}
+
+-- the image of the first of the declarations that are found
+pub first_image : (source : List ℕ) (found : Option (List Declaration)) (types : List Declaration) (first : Declaration) (bytes : List ℕ) → found ≡ Some types
+    → FormOf source found → PlainOf found → slice_get types 0 ≡ Some first → bytes ≡ image_of first → Compiles source (Some bytes)
+first_image source found types first bytes is form plain at e =
+    let one : FormOf source (Some types) = subst (FormOf source) is form in
+    let same : one.0 ≡ first = same_one types one.0 first one.2 at in
+    let good : Fits first = first_fits source found types first is form plain at in
+    (first, subst (InForm source) same one.1, image_holds first bytes good e)

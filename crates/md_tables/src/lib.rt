@@ -1,0 +1,21 @@
+//! The tables' stream: what a set of rows is as bytes, and which rows bytes hold.
+#![tactic(auto)]
+
+mod bits;
+mod fields;
+mod header;
+mod lists;
+mod numbers;
+mod put;
+mod read;
+mod rows;
+mod set;
+#[cfg(test)]
+mod tests;
+mod view;
+mod write;
+
+pub use read::read_tables;
+pub use set::TableSet;
+pub use view::TableView;
+pub use write::write_tables;

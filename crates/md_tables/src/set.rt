@@ -1,0 +1,75 @@
+//! The rows to be written, of each table.
+
+ghost use Rattle.std.specs.Prelude.{◌≡◌, length};
+
+use crate::numbers::place;
+use md_schema::{Row, Table};
+use std::alloc::{AllocError, Global};
+
+/// The heap bits and the rows of each table, from which the tables' stream is written (ECMA-335 II.24.2.6).
+#[derive(Debug, Drop)]
+pub struct TableSet {
+    /// Indices into `#Strings` have four bytes.
+    pub long_texts: bool,
+    /// Indices into `#GUID` have four bytes.
+    pub long_guids: bool,
+    /// Indices into `#Blob` have four bytes.
+    pub long_blobs: bool,
+    pub tables: Vec<Vec<Vec<u32>>>,
+    alloc: Global,
+    pub ghost all: { length tables.items ≡ 38 },
+}
+
+impl TableSet {
+    ghost use Rattle.std.specs.Prelude.{ℕ, [], ◌++◌, ◌∷◌, ◌==◌, IfOk, OnOk, OnErr, if◌then◌else◌};
+    ghost use Rattle.md_schema.specs.declared.table.Table.{Table};
+    ghost use Rattle.md_schema.specs.Schema.{columns_of, place_of};
+    ghost use Rattle.md_tables.specs.Rows.{rows_in};
+
+    /// A set without rows.
+    pub fn new(
+        alloc: Global,
+        long_texts: bool,
+        long_guids: bool,
+        long_blobs: bool,
+    ) -> Result<TableSet, AllocError>
+        ensures texts { IfOk result (λ set. set.long_texts ≡ long_texts) }
+        ensures guids { IfOk result (λ set. set.long_guids ≡ long_guids) }
+        ensures blobs { IfOk result (λ set. set.long_blobs ≡ long_blobs) }
+        ensures empty { IfOk result (λ set. (table : Table) → rows_in set table ≡ []) }
+    {
+        let mut tables = Vec::new(alloc);
+        for _ in 0..38u32 {
+            tables.push(Vec::new(alloc))?;
+        }
+        Ok(TableSet {
+            long_texts,
+            long_guids,
+            long_blobs,
+            tables,
+            alloc,
+        })
+    }
+
+    /// Adds a row at the end of a table. The number of its columns is the table's.
+    pub fn push<const N: usize>(&mut self, table: Table, row: &Row<N>) -> Result<(), AllocError>
+        requires { N ≡ length (columns_of table) }
+        ensures added { OnOk result ((other : Table) → rows_in self.new other
+            ≡ (if place_of other == place_of table then rows_in self.old other ++ row.now.cells ∷ [] else rows_in self.old other)) }
+        ensures unchanged { OnErr result ((other : Table) → rows_in self.new other ≡ rows_in self.old other) }
+        ensures texts { self.new.long_texts ≡ self.old.long_texts }
+        ensures guids { self.new.long_guids ≡ self.old.long_guids }
+        ensures blobs { self.new.long_blobs ≡ self.old.long_blobs }
+    {
+        let cells = Vec::from_slice(self.alloc, &row.cells)?;
+        self.tables[place(table)].push(cells)?;
+        Ok(())
+    }
+
+    /// How many rows a table has.
+    pub fn count(&self, table: Table) -> usize
+        ensures { result ≡ length (rows_in self.now table) }
+    {
+        self.tables[place(table)].len()
+    }
+}

@@ -1,0 +1,13 @@
+pub mod Headers
+pub mod Roots
+pub mod Found
+pub mod Cases
+pub mod Enums
+pub mod Paths
+pub mod Items
+pub mod Follows
+pub mod Whole
+pub mod Kept
+pub mod Fitting
+pub mod Writers
+pub mod ShopRead
