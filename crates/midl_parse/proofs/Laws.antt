@@ -20,7 +20,7 @@ use Rattle.midl_parse.specs.Grammar.{Is, IsThere, IsName, IsOwnName, Behind, IsD
 use Rattle.midl_parse.specs.Reading.{is_at, name_at, own_name_at, is_there_at, behind_at, dotted_at, value_at, case_at, cases_at, enum_at, enum_file_at}
 
 -- a token of the kind
-sample : Kind → Terminal
+unfoldable pub sample : Kind → Terminal
 sample k = record { offset = 0; kind = k; text = [] }
 
 same_kind : (k : Kind) → has (number_of k ∷ []) (number_of k) ≡ true

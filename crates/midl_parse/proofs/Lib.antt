@@ -7,3 +7,9 @@ pub mod Numbering
 pub mod Paths
 pub mod Distinct
 pub mod Wholes
+pub mod SourceMembers
+pub mod SourceLaws
+pub mod SourceDepths
+pub mod SourceWholes
+pub mod SourceItems
+pub mod SourceFiles

@@ -51,3 +51,7 @@ names = number_of Base ∷ number_of Float ∷ number_of Uuid ∷ number_of Vers
 -- the Name of a declared type, which is no base type and no float
 abbrev pub own_names : List ℕ
 own_names = number_of Uuid ∷ number_of Version ∷ number_of Flags ∷ number_of DefaultInterface ∷ number_of Get ∷ number_of Set ∷ number_of Name ∷ []
+
+-- a Name where an attribute may begin, which is none
+abbrev pub no_attributes : List ℕ
+no_attributes = number_of Base ∷ number_of Float ∷ number_of Get ∷ number_of Set ∷ number_of Name ∷ []

@@ -10,3 +10,8 @@ pub mod Values
 pub mod Form
 pub mod Plain
 pub mod Spelled
+pub mod SourceTrees
+pub mod SourceGrammar
+pub mod SourceReading
+pub mod SourceViews
+pub mod SourceFaults

@@ -71,7 +71,7 @@ fn cases_of(alloc: Global, tokens: &[Terminal]) -> Result<(Vec<CaseNode>, &[Term
 }
 
 #[tactic(auto, unfolding(crate::specs::Reading::enum_at))]
-fn enum_of(alloc: Global, tokens: &[Terminal]) -> Result<(EnumNode, &[Terminal]), Stop>
+pub(crate) fn enum_of(alloc: Global, tokens: &[Terminal]) -> Result<(EnumNode, &[Terminal]), Stop>
     ensures { Gives (λ x. (enum_view x.0, x.1.now)) result (enum_at tokens.now) }
 {
     let (_, rest) = take(tokens, Kind::Enum)?;

@@ -1,6 +1,8 @@
 ghost use Rattle.std.specs.Prelude.{◌≡◌, ◌∷◌, []};
 ghost use Rattle.grammar.specs.Productions.{has};
-ghost use Rattle.midl_parse.specs.Kinds.{number_of, names, own_names};
+ghost use Rattle.midl_parse.specs.Kinds.{number_of, names, own_names, no_attributes};
+ghost use Rattle.midl_parse.specs.SourceReading.{declared_first};
+ghost use Rattle.midl_parse.specs.declared.kind.Kind.TheVariants.{Base, Float, Out, Void, Event, Static, Namespace, Guid, Text};
 
 /// What a token is to the grammar: each word and mark that a production names, and the tokens that are told by their shape.
 #[derive(Clone, Copy, Debug, PartialEq, Eq)]
@@ -91,5 +93,85 @@ impl Kind {
             Kind::Base | Kind::Float => false,
             kind => kind.is_name(),
         }
+    }
+
+    /// Whether a base word or a float is of this kind.
+    pub(crate) fn is_base_or_float(self) -> bool
+        ensures { result ≡ has (number_of Base ∷ number_of Float ∷ []) (number_of self) }
+    {
+        matches!(self, Kind::Base | Kind::Float)
+    }
+
+    /// Whether a parameter may begin with this kind.
+    pub(crate) fn begins_param(self) -> bool
+        ensures { result ≡ has (number_of Out ∷ names) (number_of self) }
+    {
+        match self {
+            Kind::Out => true,
+            kind => kind.is_name(),
+        }
+    }
+
+    /// Whether a member may begin with this kind.
+    pub(crate) fn begins_member(self) -> bool
+        ensures { result ≡ has (number_of Void ∷ number_of Event ∷ names) (number_of self) }
+    {
+        match self {
+            Kind::Void | Kind::Event => true,
+            kind => kind.is_name(),
+        }
+    }
+
+    /// Whether a class's member may begin with this kind.
+    pub(crate) fn begins_class_member(self) -> bool
+        ensures { result ≡ has (number_of Static ∷ number_of Void ∷ number_of Event ∷ names) (number_of self) }
+    {
+        match self {
+            Kind::Static => true,
+            kind => kind.begins_member(),
+        }
+    }
+
+    /// Whether a word of this kind is a Name that names no attribute.
+    pub(crate) fn is_no_attribute(self) -> bool
+        ensures { result ≡ has no_attributes (number_of self) }
+    {
+        matches!(
+            self,
+            Kind::Base | Kind::Float | Kind::Get | Kind::Set | Kind::Name
+        )
+    }
+
+    /// Whether a declaration with its attributes may begin with this kind.
+    pub(crate) fn begins_declared(self) -> bool
+        ensures { result ≡ has declared_first (number_of self) }
+    {
+        matches!(
+            self,
+            Kind::OpenBracket
+                | Kind::Enum
+                | Kind::Struct
+                | Kind::Delegate
+                | Kind::Interface
+                | Kind::Static
+                | Kind::Runtimeclass
+        )
+    }
+
+    /// Whether an item of a namespace may begin with this kind.
+    pub(crate) fn begins_item(self) -> bool
+        ensures { result ≡ has (number_of Namespace ∷ declared_first) (number_of self) }
+    {
+        match self {
+            Kind::Namespace => true,
+            kind => kind.begins_declared(),
+        }
+    }
+
+    /// Whether a word of this kind may stand for an id.
+    pub(crate) fn is_id(self) -> bool
+        ensures { result ≡ has (number_of Guid ∷ number_of Text ∷ []) (number_of self) }
+    {
+        matches!(self, Kind::Guid | Kind::Text)
     }
 }

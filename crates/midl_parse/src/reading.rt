@@ -105,7 +105,8 @@ fn dot_name_of(tokens: &[Terminal]) -> Result<(Terminal, &[Terminal]), Stop>
     take_name(rest)
 }
 
-fn more_dots(
+/// More names, each behind a dot.
+pub(crate) fn more_dots(
     mut names: Vec<Terminal>,
     tokens: &[Terminal],
 ) -> Result<(Vec<Terminal>, &[Terminal]), Stop>

@@ -9,6 +9,9 @@ use std::alloc::{AllocError, AllocFailed};
 #[derive(Clone, Copy, Debug, PartialEq, Eq)]
 pub enum Code {
     Syntax,
+    FloatType,
+    UnknownAttribute,
+    TooDeep,
 }
 
 /// Memory ran out, or a fault stands before the last tokens, so many.

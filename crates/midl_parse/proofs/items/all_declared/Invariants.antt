@@ -1,0 +1,12 @@
+use Rattle.std.proofs.Common.{◌≡◌, length, map}
+use Rattle.grammar.specs.Readers.{many_at, after_front}
+use Rattle.midl_parse.specs.Symbols.{kind_of}
+use Rattle.midl_parse.specs.SourceReading.{base_at, attribute_at, args_at, declared_at, declared_first}
+use Rattle.midl_parse.specs.SourceViews.{item_view}
+use Rattle.midl_parse.proofs.items.all_declared.Given as goal
+
+abbrev pub invariant-more : goal.invariant-more
+invariant-more l = after_front (map item_view l.items.items) (many_at kind_of declared_first (declared_at attribute_at base_at (args_at l.types))) l.rest ≡ many_at kind_of declared_first (declared_at attribute_at base_at (args_at l.types)) l.fn.tokens
+
+abbrev pub decreases-more : goal.decreases-more
+decreases-more l = length l.rest

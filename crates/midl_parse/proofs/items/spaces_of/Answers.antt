@@ -1,0 +1,24 @@
+use Rattle.std.proofs.Common.{sym, ◌∙◌, map}
+use Rattle.std.proofs.lemmas.Result.{err_from_is_err_and}
+use Rattle.midl_parse.specs.SourceViews.{item_view}
+use Rattle.midl_parse.proofs.Turns.{goes_on_by, fails, ends, turn_shorter, begun}
+use Rattle.midl_parse.proofs.SourceItems.{space_item}
+use Rattle.midl_parse.proofs.items.spaces_of.Goals as goal
+
+pub more-init : goal.more-init
+more-init c = rw c.new-items.ensures.items (begun (space_item c.args.types c.args.depth) c.args.tokens.now)
+
+pub returns-in_err-item : goal.returns-in_err-item
+returns-in_err-item c =
+    let p = err_from_is_err_and c.from_residual.result c.from_residual.ensures.1 in
+    rw (p.1, p.2) (fails (space_item c.args.types c.args.depth) c.in_err-item.field-0.0 (map item_view c.more.items.items) c.more.rest.now _ (sym c.begins.ensures ∙ c.more-test.true) c.in_err-item.ensures c.more.invariant)
+
+pub more-smaller : goal.more-smaller
+more-smaller c = turn_shorter (space_item c.args.types c.args.depth) c.more.rest.now c.in_ok-item.after.now (item_view c.in_ok-item.item) c.in_ok-item.ensures
+
+pub more-preserved : goal.more-preserved
+more-preserved c =
+    goes_on_by (space_item c.args.types c.args.depth) item_view c.more.items.items c.push.new.self.items c.in_ok-item.item c.more.rest.now c.in_ok-item.after.now _ (sym c.begins.ensures ∙ c.more-test.true) c.in_ok-item.ensures c.in_ok-push.ensures.items c.more.invariant
+
+pub returns : goal.returns
+returns c = ends (space_item c.args.types c.args.depth) (map item_view c.more.items.items) c.more.rest.now _ (sym c.begins.ensures ∙ c.more-test.false) c.more.invariant

@@ -1,0 +1,14 @@
+use Rattle.std.proofs.Common.{◌≡◌, ◌∷◌, length, map}
+use Rattle.grammar.specs.Readers.{many_at, after_front}
+use Rattle.midl_parse.specs.declared.kind.Kind.TheVariants.{Void, Event}
+use Rattle.midl_parse.specs.Kinds.{number_of, names}
+use Rattle.midl_parse.specs.Symbols.{kind_of}
+use Rattle.midl_parse.specs.SourceReading.{base_at, args_at, member_at}
+use Rattle.midl_parse.specs.SourceViews.{member_view}
+use Rattle.midl_parse.proofs.members.members_of.Given as goal
+
+abbrev pub invariant-more : goal.invariant-more
+invariant-more l = after_front (map member_view l.members.items) (many_at kind_of (number_of Void ∷ number_of Event ∷ names) (member_at base_at (args_at l.depth))) l.rest ≡ many_at kind_of (number_of Void ∷ number_of Event ∷ names) (member_at base_at (args_at l.depth)) l.fn.tokens
+
+abbrev pub decreases-more : goal.decreases-more
+decreases-more l = length l.rest

@@ -1,0 +1,151 @@
+//! Attributes.
+
+ghost use Rattle.std.specs.Prelude.{◌≡◌, ◌∷◌, [], map, option_map, Some, None, false, true};
+ghost use Rattle.grammar.specs.Readers.{starts, one_at, many_at, after_front, either_at, optional_at, bar_at};
+ghost use Rattle.midl_parse.specs.declared.kind.Kind.TheVariants.{Namespace, Comma, Dot, Out, Void, Event, Static, Text, Base, Float, OpenBracket, Import, Guid};
+ghost use Rattle.midl_parse.specs.Kinds.{number_of, names, no_attributes};
+ghost use Rattle.midl_parse.specs.Symbols.{kind_of};
+ghost use Rattle.midl_parse.specs.declared.stop.Code.TheVariants.{Syntax};
+ghost use Rattle.midl_parse.specs.Reading.{Gives, behind_at};
+ghost use Rattle.midl_parse.specs.SourceReading.{uuid_at, version_at, flags_at, default_at, known_at, attribute_at, listed_at, group_at};
+ghost use Rattle.midl_parse.specs.SourceViews.{attribute_view};
+
+use crate::kind::Kind;
+use crate::nodes::AttributeNode;
+use crate::reading::{begins, take};
+use crate::stop::{Code, Stop};
+use crate::symbol::Terminal;
+use std::alloc::Global;
+
+fn begins_no_attribute(tokens: &[Terminal]) -> bool
+    ensures { result ≡ starts kind_of no_attributes tokens.now }
+{
+    match tokens {
+        [] => false,
+        [token, ..] => token.kind.is_no_attribute(),
+    }
+}
+
+fn take_id(tokens: &[Terminal]) -> Result<(&Terminal, &[Terminal]), Stop>
+    ensures { Gives (λ x. (x.0.now, x.1.now)) result (one_at kind_of (number_of Guid ∷ number_of Text ∷ []) Syntax tokens.now) }
+{
+    match tokens {
+        [] => Err(Stop::Fault(Code::Syntax, 0)),
+        [token, rest @ ..] => {
+            if token.kind.is_id() {
+                Ok((token, rest))
+            } else {
+                Err(Stop::Fault(Code::Syntax, tokens.len()))
+            }
+        }
+    }
+}
+
+#[tactic(auto, unfolding(crate::specs::SourceReading::uuid_at))]
+fn uuid_of(tokens: &[Terminal]) -> Result<(AttributeNode, &[Terminal]), Stop>
+    ensures { Gives (λ x. (attribute_view x.0, x.1.now)) result (uuid_at tokens.now) }
+{
+    let (word, rest) = take(tokens, Kind::Uuid)?;
+    let (_, rest) = take(rest, Kind::OpenParen)?;
+    let (id, rest) = take_id(rest)?;
+    let (_, rest) = take(rest, Kind::CloseParen)?;
+    Ok((AttributeNode::Uuid(word.clone()?, id.clone()?), rest))
+}
+
+#[tactic(auto, unfolding(crate::specs::SourceReading::version_at))]
+fn version_of(tokens: &[Terminal]) -> Result<(AttributeNode, &[Terminal]), Stop>
+    ensures { Gives (λ x. (attribute_view x.0, x.1.now)) result (version_at tokens.now) }
+{
+    let (word, rest) = take(tokens, Kind::Version)?;
+    let (_, rest) = take(rest, Kind::OpenParen)?;
+    let (number, rest) = take(rest, Kind::Number)?;
+    let (_, rest) = take(rest, Kind::CloseParen)?;
+    Ok((AttributeNode::Version(word.clone()?, number.clone()?), rest))
+}
+
+#[tactic(auto, unfolding(crate::specs::SourceReading::flags_at))]
+fn flags_of(tokens: &[Terminal]) -> Result<(AttributeNode, &[Terminal]), Stop>
+    ensures { Gives (λ x. (attribute_view x.0, x.1.now)) result (flags_at tokens.now) }
+{
+    let (word, rest) = take(tokens, Kind::Flags)?;
+    Ok((AttributeNode::Flags(word.clone()?), rest))
+}
+
+#[tactic(auto, unfolding(crate::specs::SourceReading::default_at))]
+fn default_of(tokens: &[Terminal]) -> Result<(AttributeNode, &[Terminal]), Stop>
+    ensures { Gives (λ x. (attribute_view x.0, x.1.now)) result (default_at tokens.now) }
+{
+    let (word, rest) = take(tokens, Kind::DefaultInterface)?;
+    Ok((AttributeNode::DefaultInterface(word.clone()?), rest))
+}
+
+#[tactic(auto, unfolding(crate::specs::SourceReading::attribute_at, crate::specs::SourceReading::known_at))]
+fn attribute_of(tokens: &[Terminal]) -> Result<(AttributeNode, &[Terminal]), Stop>
+    ensures { Gives (λ x. (attribute_view x.0, x.1.now)) result (attribute_at tokens.now) }
+{
+    if begins_no_attribute(tokens) {
+        return Err(Stop::Fault(Code::UnknownAttribute, tokens.len()));
+    }
+    if begins(tokens, Kind::Uuid) {
+        return uuid_of(tokens);
+    }
+    if begins(tokens, Kind::Version) {
+        return version_of(tokens);
+    }
+    if begins(tokens, Kind::Flags) {
+        return flags_of(tokens);
+    }
+    default_of(tokens)
+}
+
+#[tactic(auto, unfolding(crate::specs::Reading::behind_at))]
+fn comma_attribute(tokens: &[Terminal]) -> Result<(AttributeNode, &[Terminal]), Stop>
+    ensures { Gives (λ x. (attribute_view x.0, x.1.now)) result (behind_at Comma attribute_at tokens.now) }
+{
+    let (_, rest) = take(tokens, Kind::Comma)?;
+    attribute_of(rest)
+}
+
+fn more_attributes(
+    mut attributes: Vec<AttributeNode>,
+    tokens: &[Terminal],
+) -> Result<(Vec<AttributeNode>, &[Terminal]), Stop>
+    ensures { Gives (λ x. (map attribute_view x.0.items, x.1.now)) result (after_front (map attribute_view attributes.items) (many_at kind_of (number_of Comma ∷ []) (behind_at Comma attribute_at)) tokens.entry.now) }
+{
+    let mut rest = tokens;
+    'more: while begins(rest, Kind::Comma) {
+        let (item, after) = comma_attribute(rest)?;
+        attributes.push(item)?;
+        rest = after;
+    }
+    Ok((attributes, rest))
+}
+
+#[tactic(auto, unfolding(crate::specs::SourceReading::group_at, crate::specs::SourceReading::listed_at))]
+fn group_of(alloc: Global, tokens: &[Terminal]) -> Result<(Vec<AttributeNode>, &[Terminal]), Stop>
+    ensures { Gives (λ x. (map attribute_view x.0.items, x.1.now)) result (group_at attribute_at tokens.now) }
+{
+    let (_, rest) = take(tokens, Kind::OpenBracket)?;
+    let (first, rest) = attribute_of(rest)?;
+    let mut attributes = Vec::new(alloc);
+    attributes.push(first)?;
+    let (attributes, rest) = more_attributes(attributes, rest)?;
+    let (_, rest) = take(rest, Kind::CloseBracket)?;
+    Ok((attributes, rest))
+}
+
+pub(crate) fn groups_of(
+    alloc: Global,
+    tokens: &[Terminal],
+) -> Result<(Vec<Vec<AttributeNode>>, &[Terminal]), Stop>
+    ensures { Gives (λ x. (map (λ g. map attribute_view g.items) x.0.items, x.1.now)) result (many_at kind_of (number_of OpenBracket ∷ []) (group_at attribute_at) tokens.entry.now) }
+{
+    let mut groups = Vec::new(alloc);
+    let mut rest = tokens;
+    'more: while begins(rest, Kind::OpenBracket) {
+        let (item, after) = group_of(alloc, rest)?;
+        groups.push(item)?;
+        rest = after;
+    }
+    Ok((groups, rest))
+}

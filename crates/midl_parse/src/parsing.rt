@@ -1,0 +1,42 @@
+//! Whole files.
+
+ghost use Rattle.std.specs.Prelude.{◌≡◌, List, Ok, IfOk, IfErr};
+ghost use Rattle.midl_parse.specs.Reading.{Gives};
+ghost use Rattle.midl_parse.specs.SourceTrees.{SourceTree};
+ghost use Rattle.midl_parse.specs.SourceGrammar.{IsSource};
+ghost use Rattle.midl_parse.specs.SourceReading.{source_at};
+ghost use Rattle.midl_parse.specs.SourceFaults.{StandsAt};
+ghost use Rattle.midl_parse.specs.SourceViews.{source_view};
+
+use crate::items::{imports_of, spaces_of};
+use crate::nodes::File;
+use crate::stop::{Code, Stop};
+use crate::symbol::Terminal;
+use std::alloc::Global;
+
+/// How many levels of namespaces, and of type uses, there may be inside the first.
+const DEPTH: u32 = 15;
+
+#[tactic(auto, unfolding(crate::specs::SourceReading::source_at, crate::specs::SourceReading::source_with))]
+fn all_of(alloc: Global, tokens: &[Terminal]) -> Result<File, Stop>
+    ensures { Gives source_view result (source_at tokens.now) }
+{
+    let (imports, rest) = imports_of(alloc, tokens)?;
+    let (items, rest) = spaces_of(alloc, DEPTH, DEPTH, rest)?;
+    match rest {
+        [] => Ok(File { imports, items }),
+        [_, ..] => Err(Stop::Fault(Code::Syntax, rest.len())),
+    }
+}
+
+/// The tree of a file's tokens, exactly where they have one; else the first fault.
+pub(crate) fn source_of(alloc: Global, tokens: &[Terminal]) -> Result<File, Stop>
+    // What is read is a tree of the tokens.
+    ensures found { IfOk result (λ file. IsSource tokens.now (source_view file)) }
+    // Tokens that have a tree have this one alone, and it is read, unless memory runs out.
+    ensures only { (tree : SourceTree) → IsSource tokens.now tree → Gives source_view result (Ok tree) }
+    // A fault stands at the first token at which no file goes on.
+    ensures fault { IfErr result (λ stop. StandsAt tokens.now stop) }
+{
+    all_of(alloc, tokens)
+}
