@@ -12,3 +12,4 @@ pub mod Limits
 pub mod Refusals
 pub mod Codes
 pub mod Keeps
+pub mod Places

@@ -4,7 +4,8 @@ use Rattle.std.proofs.lemmas.List.{append-nil, length-take-le, length-drop}
 use Rattle.midl_lex.specs.declared.fault.Fault.{Fault}
 use Rattle.midl_lex.specs.declared.token.LexemeKind.{LexemeKind}
 use Rattle.midl_lex.specs.Lexemes.{Lexeme, IsLongest}
-use Rattle.midl_lex.specs.Tokens.{Piece, Cuts, token_if, tokens_of, excess, AllFit, Lexes, mark_len}
+use Rattle.midl_lex.specs.Pieces.{Piece}
+use Rattle.midl_lex.specs.Tokens.{Cuts, token_if, tokens_of, excess, AllFit, Lexes, mark_len}
 use Rattle.midl_lex.specs.Next.{next}
 use Rattle.midl_lex.proofs.Steps.{next_fits, next_some, here, is_scan, one_way}
 

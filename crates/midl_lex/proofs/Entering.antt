@@ -9,7 +9,8 @@ use Rattle.ranked.specs.First.{IsFirst, Or, Where, Clear}
 use Rattle.ranked.proofs.FirstLaws.{itself}
 use Rattle.midl_lex.specs.declared.fault.Fault.{Fault}
 use Rattle.midl_lex.specs.declared.fault.Fault.TheVariants.{NotUtf8}
-use Rattle.midl_lex.specs.Tokens.{Piece, Lexes}
+use Rattle.midl_lex.specs.Pieces.{Piece}
+use Rattle.midl_lex.specs.Tokens.{Lexes}
 use Rattle.midl_lex.specs.Faults.{FirstFault, entry}
 use Rattle.midl_lex.specs.Entries.{NotText, NotCut, Lexical}
 use Rattle.midl_lex.proofs.Firsts.{which, of_first, valid_end, first_is, one_fault, lexes_no_fault}

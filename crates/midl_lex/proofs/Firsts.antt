@@ -1,5 +1,5 @@
 -- Faults and where nothing goes on: the first fault is there exactly where the bytes aren't all cut.
-use Rattle.std.proofs.Common.{◌≡◌, ℕ, zero, suc, ◌+◌, ◌<◌, ◌≤◌, Bool, true, false, cond, ◌&&◌, eqb, ltb, List, [], ◌∷◌, ◌++◌, length, map, take, drop, Option, Some, None, Result, Ok, Err, refl, sym, ap, subst, ◌∙◌, arith, inl, inr, ◌⊎◌}
+use Rattle.std.proofs.Common.{◌≡◌, ℕ, zero, suc, ◌+◌, ◌<◌, ◌≤◌, Bool, true, false, cond, ◌&&◌, eqb, ltb, List, [], ◌∷◌, ◌++◌, length, take, drop, Option, Some, None, Result, Ok, Err, refl, sym, ap, subst, ◌∙◌, arith, inl, inr, ◌⊎◌}
 use Rattle.std.specs.Prelude.{IfOk, IfErr}
 use Rattle.std.specs.Global.{Vec}
 use Rattle.std.specs.Str.{IsUtf8, IsValidUpTo}
@@ -10,14 +10,14 @@ use Rattle.ranked.specs.declared.stop.Stop.{Stop}
 use Rattle.ranked.specs.declared.stop.Stop.TheVariants.{Refused, Memory}
 use Rattle.midl_lex.specs.declared.fault.Fault.{Fault}
 use Rattle.midl_lex.specs.declared.fault.Fault.TheVariants.{NotUtf8, BadChar, OpenComment, OpenText, WideNumber, LongName}
-use Rattle.midl_lex.specs.declared.token.Token.{Token as BorrowedToken}
 use Rattle.midl_lex.specs.declared.token.TokenKind.TheVariants as tokens
 use Rattle.midl_lex.specs.declared.token.LexemeKind.{LexemeKind}
 use Rattle.midl_lex.specs.declared.token.LexemeKind.TheVariants as kinds
 use Rattle.midl_lex.specs.Numbers.{value_of}
 use Rattle.midl_lex.specs.Scan.{scan}
 use Rattle.midl_lex.specs.Lexemes.{Stands, Lexeme, IsLongest, NoLexeme}
-use Rattle.midl_lex.specs.Tokens.{Piece, token_view, token_if, Cuts, excess, Lexes, mark_len}
+use Rattle.midl_lex.specs.Pieces.{Piece}
+use Rattle.midl_lex.specs.Tokens.{token_if, Cuts, excess, Lexes, mark_len}
 use Rattle.midl_lex.specs.Faults.{Reached, Exceeds, IsFault, NoneBefore, FirstFault, entry, RefusedFirst, Reads, Refuses}
 use Rattle.midl_lex.specs.Next.{fault_of, is_star, unless_excess, checked, next}
 use Rattle.midl_lex.proofs.Classes.{and_parts, not_true}
@@ -294,13 +294,13 @@ refused_here bytes rest found offset fault utf8 s at total some e = first_here b
 
 -- ---- a result is determined
 
-pub is_only : (file : ℕ) (bytes : List ℕ) (result : Result (Vec BorrowedToken) (Stop Entry)) → IfOk result (λ v. Lexes bytes (map token_view v.items)) → IfErr result (λ stop. RefusedFirst file bytes stop) → (pieces : List Piece) → Lexes bytes pieces → Reads pieces result
-is_only file bytes (Ok v) ok err pieces l = one_list bytes (map token_view v.items) pieces ok l
+pub is_only : (file : ℕ) (bytes : List ℕ) (result : Result (Vec Piece) (Stop Entry)) → IfOk result (λ v. Lexes bytes v.items) → IfErr result (λ stop. RefusedFirst file bytes stop) → (pieces : List Piece) → Lexes bytes pieces → Reads pieces result
+is_only file bytes (Ok v) ok err pieces l = one_list bytes v.items pieces ok l
 is_only file bytes (Err Memory) ok err pieces l = tt
 is_only file bytes (Err (Refused e)) ok err pieces l = lexes_no_fault bytes pieces err.0 err.1 l (first_is bytes err.0 err.1 err.3)
 
-pub is_first : (file : ℕ) (bytes : List ℕ) (result : Result (Vec BorrowedToken) (Stop Entry)) → IfOk result (λ v. Lexes bytes (map token_view v.items)) → IfErr result (λ stop. RefusedFirst file bytes stop) → (offset : ℕ) (fault : Fault) → FirstFault bytes offset fault → Refuses (entry file offset fault) result
-is_first file bytes (Ok v) ok err offset fault h = lexes_no_fault bytes (map token_view v.items) offset fault ok (first_is bytes offset fault h)
+pub is_first : (file : ℕ) (bytes : List ℕ) (result : Result (Vec Piece) (Stop Entry)) → IfOk result (λ v. Lexes bytes v.items) → IfErr result (λ stop. RefusedFirst file bytes stop) → (offset : ℕ) (fault : Fault) → FirstFault bytes offset fault → Refuses (entry file offset fault) result
+is_first file bytes (Ok v) ok err offset fault h = lexes_no_fault bytes v.items offset fault ok (first_is bytes offset fault h)
 is_first file bytes (Err Memory) ok err offset fault h = tt
 is_first file bytes (Err (Refused e)) ok err offset fault h =
     let one = one_first bytes err.0 offset err.1 fault err.3 h in

@@ -4,7 +4,8 @@ use Rattle.std.specs.Str.{IsUtf8}
 use Rattle.midl_lex.specs.declared.fault.Fault.{Fault}
 use Rattle.midl_lex.specs.declared.fault.Fault.TheVariants.{NotUtf8}
 use Rattle.midl_lex.specs.declared.token.LexemeKind.{LexemeKind}
-use Rattle.midl_lex.specs.Tokens.{Piece, token_if, mark_len, Lexes}
+use Rattle.midl_lex.specs.Pieces.{Piece}
+use Rattle.midl_lex.specs.Tokens.{token_if, mark_len, Lexes}
 use Rattle.midl_lex.specs.Faults.{IsFault, FirstFault}
 use Rattle.midl_lex.specs.Next.{next}
 use Rattle.midl_lex.specs.Laws.{IsOnly}

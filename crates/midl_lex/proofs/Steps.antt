@@ -50,6 +50,15 @@ pub next_fits : (rest : List ℕ) (kind : LexemeKind) (len : ℕ) → Ok (kind, 
 unfolding next
 next_fits rest kind len e = next_fits_case rest kind len (scan rest) refl e
 
+-- the lexeme that stands at the front is one, and fits
+pub front_is : (rest front : List ℕ) (kind : LexemeKind) (len : ℕ) → Ok (kind, len) ≡ next rest → front ≡ take len rest → IsLexeme kind front
+front_is rest front kind len e same =
+    let h = (scan_longest rest kind len (next_fits rest kind len e).scanned).2 in
+    subst (λ (u : List ℕ). IsLexeme kind u) (sym same) h.is
+
+pub front_fits : (rest front : List ℕ) (kind : LexemeKind) (len : ℕ) → Ok (kind, len) ≡ next rest → front ≡ take len rest → excess kind front ≡ None
+front_fits rest front kind len e same = ap (excess kind) same ∙ (next_fits rest kind len e).fine
+
 pub here : (bytes : List ℕ) (offset : ℕ) (kind : LexemeKind) (len : ℕ) → scan (drop offset bytes) ≡ Some (kind, len) → IsLongest bytes (record { offset = offset; kind = kind; text = take len (drop offset bytes) })
 here bytes offset kind len e =
     let h = (scan_longest (drop offset bytes) kind len e).2 in

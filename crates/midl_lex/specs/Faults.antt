@@ -1,5 +1,5 @@
 -- What may be wrong with the bytes of a file, and where.
-use Rattle.std.specs.Prelude.{◌≡◌, ℕ, ◌<◌, ◌≤◌, List, [], ◌∷◌, length, map, Some, Result, Ok, Err}
+use Rattle.std.specs.Prelude.{◌≡◌, ℕ, ◌<◌, ◌≤◌, List, [], ◌∷◌, length, Some, Result, Ok, Err}
 use Rattle.std.specs.Global.{Vec}
 use Rattle.std.specs.Str.{IsUtf8, IsValidUpTo}
 use Rattle.ranked.specs.Entries.{Entry}
@@ -10,9 +10,9 @@ use Rattle.wr_base.specs.declared.code.Code.{Code}
 use Rattle.wr_base.specs.declared.code.Code.TheVariants as codes
 use Rattle.midl_lex.specs.declared.fault.Fault.{Fault}
 use Rattle.midl_lex.specs.declared.fault.Fault.TheVariants.{NotUtf8, BadChar, OpenComment, OpenText, WideNumber, LongName}
-use Rattle.midl_lex.specs.declared.token.Token.{Token}
 use Rattle.midl_lex.specs.Lexemes.{Lexeme, IsLongest, NoLexeme, Stands}
-use Rattle.midl_lex.specs.Tokens.{Piece, token_view, Cuts, excess, mark_len}
+use Rattle.midl_lex.specs.Pieces.{Piece}
+use Rattle.midl_lex.specs.Tokens.{Cuts, excess, mark_len}
 
 -- a lexeme begins at the offset, or would begin there: all before it is lexemes
 abbrev pub Reached : List ℕ → ℕ → Type 0
@@ -72,13 +72,13 @@ RefusedFirst file bytes Memory = Unit {0}
 RefusedFirst file bytes (Refused e) = (offset : ℕ) × (fault : Fault) × (e ≡ entry file offset fault) × FirstFault bytes offset fault
 
 -- the result has these tokens, unless memory ran out
-abbrev pub Reads : List Piece → Result (Vec Token) (Stop Entry) → Type 0
-Reads pieces (Ok v) = map token_view v.items ≡ pieces
+abbrev pub Reads : List Piece → Result (Vec Piece) (Stop Entry) → Type 0
+Reads pieces (Ok v) = v.items ≡ pieces
 Reads pieces (Err Memory) = Unit {0}
 Reads pieces (Err (Refused e)) = ⊥
 
 -- the result is this refusal, unless memory ran out
-abbrev pub Refuses : Entry → Result (Vec Token) (Stop Entry) → Type 0
+abbrev pub Refuses : Entry → Result (Vec Piece) (Stop Entry) → Type 0
 Refuses entry (Ok v) = ⊥
 Refuses entry (Err Memory) = Unit {0}
 Refuses entry (Err (Refused e)) = e ≡ entry

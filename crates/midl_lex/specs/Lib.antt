@@ -4,6 +4,7 @@ pub mod Numbers
 pub mod Guids
 pub mod Scan
 pub mod Lexemes
+pub mod Pieces
 pub mod Tokens
 pub mod Faults
 pub mod Next

@@ -1,24 +1,11 @@
 -- The tokens of a file.
-use Rattle.std.specs.Prelude.{◌≡◌, ℕ, ◌+◌, ◌^◌, nat_lt, if◌then◌else◌, List, [], ◌∷◌, ◌++◌, length, Option, Some, None, ◌==◌, ◌&&◌}
+use Rattle.std.specs.Prelude.{◌≡◌, ℕ, ◌+◌, if◌then◌else◌, List, [], ◌∷◌, ◌++◌, length, Option, None, ◌==◌, ◌&&◌}
 use Rattle.std.specs.Str.{IsUtf8}
 use Rattle.midl_lex.specs.declared.fault.Fault.{Fault}
-use Rattle.midl_lex.specs.declared.fault.Fault.TheVariants.{WideNumber, LongName}
-use Rattle.midl_lex.specs.declared.token.TokenKind.{TokenKind}
-use Rattle.midl_lex.specs.declared.token.TokenKind.TheVariants.{Word, Number, Guid, Text, Mark}
 use Rattle.midl_lex.specs.declared.token.LexemeKind.{LexemeKind}
 use Rattle.midl_lex.specs.declared.token.LexemeKind.TheVariants.{White, LineComment, BlockComment, Token}
-use Rattle.midl_lex.specs.declared.token.Token.{Token as BorrowedToken}
 use Rattle.midl_lex.specs.Lexemes.{Lexeme, IsLongest}
-use Rattle.midl_lex.specs.Numbers.{value_of}
-
--- a token without where it lies in memory
-pub record Piece : Type 0 where
-  pub offset : ℕ
-  pub kind : TokenKind
-  pub text : List ℕ
-
-abbrev pub token_view : BorrowedToken → Piece
-token_view t = record { offset = t.offset; kind = t.kind; text = t.text.now }
+use Rattle.midl_lex.specs.Pieces.{Piece, excess_of}
 
 -- the length of the byte order mark at the front, EF BB BF, or 0 where none is
 abbrev pub mark_len : List ℕ → ℕ
@@ -44,14 +31,7 @@ abbrev pub tokens_of : List Lexeme → List Piece
 tokens_of [] = []
 tokens_of (l ∷ ls) = token_if l.offset l.kind l.text ++ tokens_of ls
 
--- what is too much about a token: a word above 255 bytes, a number of 2^64 or more
-abbrev pub excess_of : TokenKind → List ℕ → Option Fault
-excess_of Word text = if nat_lt 255 (length text) then Some LongName else None
-excess_of Number text = if nat_lt (value_of text) (2 ^ 64) then None else Some WideNumber
-excess_of Guid text = None
-excess_of Text text = None
-excess_of Mark text = None
-
+-- what is too much about a lexeme
 abbrev pub excess : LexemeKind → List ℕ → Option Fault
 excess White text = None
 excess LineComment text = None

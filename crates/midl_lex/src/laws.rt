@@ -2,7 +2,8 @@
 
 ghost use Rattle.std.specs.Prelude.{◌≡◌, List, ℕ, Some, None};
 ghost use Rattle.midl_lex.specs.declared.fault.Fault.{Fault};
-ghost use Rattle.midl_lex.specs.Tokens.{Piece, Lexes};
+ghost use Rattle.midl_lex.specs.Pieces.{Piece};
+ghost use Rattle.midl_lex.specs.Tokens.{Lexes};
 ghost use Rattle.midl_lex.specs.Faults.{IsFault, FirstFault, entry};
 ghost use Rattle.midl_lex.specs.Entries.{Lexical};
 ghost use Rattle.ranked.specs.First.{IsFirst};

@@ -1,8 +1,10 @@
 //! All tokens of the bytes, or the first fault.
 
-ghost use Rattle.std.specs.Prelude.{◌≡◌, ◌≤◌, ◌<◌, ◌^◌, ◌++◌, List, ℕ, Option, Some, length, map, IfOk, IfErr};
+ghost use Rattle.std.specs.Prelude.{◌≡◌, ◌≤◌, ◌<◌, ◌^◌, ◌+◌, ◌++◌, List, ℕ, Option, Some, None, length, IfOk, IfErr};
 ghost use Rattle.midl_lex.specs.declared.fault.Fault.{Fault};
-ghost use Rattle.midl_lex.specs.Tokens.{Piece, token_view, token_if, mark_len, excess, Lexes};
+ghost use Rattle.midl_lex.specs.Lexemes.{IsLexeme};
+ghost use Rattle.midl_lex.specs.Pieces.{Piece};
+ghost use Rattle.midl_lex.specs.Tokens.{token_if, mark_len, excess, Lexes};
 ghost use Rattle.std.specs.Str.{IsUtf8};
 ghost use Rattle.midl_lex.specs.Next.{fault_of, next};
 ghost use Rattle.midl_lex.specs.Faults.{FirstFault, RefusedFirst, Reads, Refuses, entry};
@@ -68,12 +70,15 @@ fn with_lexeme<'a>(
     kind: LexemeKind,
     text: &'a [u8],
 ) -> Result<Vec<Token<'a>>, AllocError>
-    ensures { IfOk result (λ v. map token_view v.items ≡ map token_view found.entry.items ++ token_if offset kind text.entry.now) }
+    requires is { IsLexeme kind text.now }
+    requires fits { excess kind text.now ≡ None }
+    requires ends { offset + length text.now < 2 ^ 32 }
+    ensures { IfOk result (λ v. v.items ≡ found.entry.items ++ token_if offset kind text.entry.now) }
 {
     match kind {
         LexemeKind::White | LexemeKind::LineComment | LexemeKind::BlockComment => Ok(found),
         LexemeKind::Token(kind) => {
-            found.push(Token { offset, kind, text })?;
+            found.push(Token::new(offset, kind, text))?;
             Ok(found)
         }
     }
@@ -98,7 +103,7 @@ fn mark_len(bytes: &[u8]) -> usize
 fn cut_all<'a>(alloc: Global, file: u32, bytes: &'a [u8]) -> Result<Vec<Token<'a>>, Stop<Refusal>>
     requires short { length bytes.now < 2 ^ 32 }
     requires utf8 { IsUtf8 bytes.now }
-    ensures ok { IfOk result (λ v. Lexes bytes.now (map token_view v.items)) }
+    ensures ok { IfOk result (λ v. Lexes bytes.now v.items) }
     ensures refused { IfErr result (λ stop. RefusedFirst file bytes.now stop) }
 {
     let mut found = Vec::new(alloc);
@@ -127,7 +132,7 @@ pub fn tokens<'a>(
 ) -> Result<Vec<Token<'a>>, Stop<Refusal>>
     requires { length bytes.now ≤ 4194304 }
     // The bytes are cut into the longest lexemes, and these are the tokens among them.
-    ensures ok { IfOk result (λ v. Lexes bytes.now (map token_view v.items)) }
+    ensures ok { IfOk result (λ v. Lexes bytes.now v.items) }
     // Bytes that are cut so are read, unless memory runs out.
     ensures only { (pieces : List Piece) → Lexes bytes.now pieces → Reads pieces result }
     // A refusal is the first fault.

@@ -175,7 +175,7 @@ static FILES: [(&[u8], Want); 63] = [
 ];
 
 fn is_same(token: &Token, want: &(u32, TokenKind, &'static [u8])) -> bool {
-    token.offset == want.0 && token.kind == want.1 && token.text == want.2
+    token.offset() == want.0 && token.kind() == want.1 && token.text() == want.2
 }
 
 fn are_same(found: &[Token], want: &[(u32, TokenKind, &'static [u8])]) -> bool {
@@ -220,7 +220,7 @@ fn names_have_at_most_255_bytes(rt: HostRuntime) -> Result<(), Fail> {
     let name = [b'a'; 255];
     let found = tokens(rt.alloc(), 0, &name).expect(&rt, "255 bytes");
     assert_eq!(rt; found.len(), 1);
-    assert_eq!(rt; found[0].text.len(), 255);
+    assert_eq!(rt; found[0].text().len(), 255);
     let place = Place { file: 0, offset: 0 };
     match tokens(rt.alloc(), 0, &[b'a'; 256]) {
         Err(Stop::Refused(refusal)) => {

@@ -14,14 +14,14 @@ use Rattle.midl_lex.specs.Guids.{guid_from, guid_test}
 use Rattle.midl_lex.specs.Scan.{is_mark}
 use Rattle.midl_lex.specs.Numbers.{value_of}
 use Rattle.midl_lex.specs.Lexemes.{Lexeme, IsLexeme}
-use Rattle.midl_lex.specs.Tokens.{Piece, Lexes, Cuts, AllFit, excess, excess_of, token_if, tokens_of}
+use Rattle.midl_lex.specs.Pieces.{Piece, excess_of, Fits}
+use Rattle.midl_lex.specs.Tokens.{Lexes, Cuts, AllFit, excess, token_if, tokens_of}
 use Rattle.midl_parse.specs.declared.kind.Kind.{Kind}
 use Rattle.midl_parse.specs.declared.kind.Kind.TheVariants as kinds
 use Rattle.midl_parse.specs.declared.symbol.Terminal.{Terminal}
 use Rattle.midl_parse.specs.Kinds.{number_of, names}
-use Rattle.midl_parse.specs.Symbols.{kind_of}
 use Rattle.midl_parse.specs.Words.{kind_of_name, kind_of_word, kind_of_byte, kind_of_mark, kind_by, text_by, terminal_of}
-use Rattle.midl_parse.specs.Lexed.{Fits, IsWord, IsCount}
+use Rattle.midl_parse.specs.Terminals.{IsLexed}
 
 -- ---- the tokens of a file are spelled as their kinds say
 
@@ -175,26 +175,39 @@ word_kind Q text last h0 h1 h2 h3 h4 h5 h6 h7 h8 h9 h10 h11 = choose Q _ _ _ h0 
 word_no_number : (text : List ℕ) → no_number (kind_of_word text)
 word_no_number text = word_kind no_number text (name_kind no_number text refl refl refl refl refl refl refl refl refl) refl refl refl refl refl refl refl refl refl refl refl refl
 
--- what the tree needs of a token
-pub record IsLexed (t : Terminal) : Type 0 where
-  pub name : has names (kind_of t) ≡ true → IsWord t
-  pub number : has (number_of kinds.Number ∷ []) (kind_of t) ≡ true → IsCount t
-
 not_so : (x : Bool) {A : Type 0} → x ≡ false → x ≡ true → A
 not_so x f t = absurd (let no : false ≡ true = sym f ∙ t in cc)
 
-lexed_by : (offset : ℕ) (kind : TokenKind) (text : List ℕ) → IsLexeme (lexemes.Token kind) text → excess_of kind text ≡ None → IsLexed (record { offset = offset; kind = kind_by kind text; text = text_by kind text })
-lexed_by offset tokens.Word text is fits = record {
+lexed_by : (offset : ℕ) (kind : TokenKind) (text : List ℕ) → IsAscii (text_by kind text) → IsLexeme (lexemes.Token kind) text → excess_of kind text ≡ None → IsLexed (record { offset = offset; kind = kind_by kind text; text = text_by kind text })
+lexed_by offset tokens.Word text ascii is fits = record {
+  ascii = ascii;
   name = λ h. record { identifier = word_identifier text is; short = not_long text fits };
   number = λ h. not_so _ (word_no_number text) h;
 }
-lexed_by offset tokens.Number text is fits = record {
+lexed_by offset tokens.Number text ascii is fits = record {
+  ascii = ascii;
   name = λ h. absurd cc;
   number = λ h. record { number = is; fits = not_wide text fits };
 }
-lexed_by offset tokens.Guid text is fits = record { name = λ h. absurd cc; number = λ h. absurd cc }
-lexed_by offset tokens.Text text is fits = record { name = λ h. absurd cc; number = λ h. absurd cc }
-lexed_by offset tokens.Mark text is fits = record { name = λ h. not_so _ (mark_no_name text) h; number = λ h. not_so _ (mark_no_number text) h }
+lexed_by offset tokens.Guid text ascii is fits = record { ascii = ascii; name = λ h. absurd cc; number = λ h. absurd cc }
+lexed_by offset tokens.Text text ascii is fits = record { ascii = ascii; name = λ h. absurd cc; number = λ h. absurd cc }
+lexed_by offset tokens.Mark text ascii is fits = record { ascii = ascii; name = λ h. not_so _ (mark_no_name text) h; number = λ h. not_so _ (mark_no_number text) h }
+
+ascii_by : (kind : TokenKind) (text : List ℕ) → IsAscii text → IsAscii (text_by kind text)
+ascii_by tokens.Word text h = h
+ascii_by tokens.Number text h = h
+ascii_by tokens.Guid text h = h
+ascii_by tokens.Text text h = h
+ascii_by tokens.Mark text h = ascii_of [] tt
+
+pub piece_lexed : (p : Piece) → Fits p → IsLexed (terminal_of p)
+piece_lexed p h = lexed_by p.offset p.kind p.text (ascii_by p.kind p.text (piece_ascii p h)) h.is h.fits
+
+pub lexed_as : (p : Piece) (offset : ℕ) (kind : Kind) (text : List ℕ) → Fits p → offset ≡ p.offset → kind ≡ kind_by p.kind p.text → text ≡ text_by p.kind p.text → IsLexed (record { offset = offset; kind = kind; text = text })
+lexed_as p offset kind text h at is spelled =
+    let this : Terminal = record { offset = offset; kind = kind; text = text } in
+    let same : this ≡ terminal_of p = cc in
+    subst IsLexed (sym same) (piece_lexed p h)
 
 pub terminals_lexed : (pieces : List Piece) → All Fits pieces → All IsLexed (map terminal_of pieces)
-terminals_lexed pieces h = All-map IsLexed terminal_of pieces (All-weaker Fits (λ p. IsLexed (terminal_of p)) (λ p f. lexed_by p.offset p.kind p.text f.is f.fits) pieces h)
+terminals_lexed pieces h = All-map IsLexed terminal_of pieces (All-weaker Fits (λ p. IsLexed (terminal_of p)) piece_lexed pieces h)

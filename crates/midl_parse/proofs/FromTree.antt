@@ -4,7 +4,7 @@ use Rattle.std.specs.List.{All}
 use Rattle.std.specs.Option.{IfSome}
 use Rattle.grammar.proofs.KindSets.{within_has}
 use Rattle.grammar.proofs.Keeps.{Each, each_of, all_of, Keeps, keeps_one, keeps_done, keeps_then, keeps_optional, keeps_many, keeps_any, keeps_trailing}
-use Rattle.midl_lex.specs.Tokens.{Piece}
+use Rattle.midl_lex.specs.Pieces.{Piece, Fits}
 use Rattle.midl_parse.specs.declared.kind.Kind.TheVariants.{Number}
 use Rattle.midl_parse.specs.declared.symbol.Terminal.{Terminal}
 use Rattle.midl_parse.specs.declared.tree.Value.{Value}
@@ -14,8 +14,9 @@ use Rattle.midl_parse.specs.Symbols.{kind_of}
 use Rattle.midl_parse.specs.Words.{terminal_of}
 use Rattle.midl_parse.specs.Trees.{EnumTree, FileTree, or_none}
 use Rattle.midl_parse.specs.Grammar.{Is, IsName, IsOwnName, IsDotted, IsValue, IsCase, IsCases, IsEnum, IsEnumFile}
-use Rattle.midl_parse.specs.Lexed.{Fits, IsWord, IsCount, IsCounted, CaseIsLexed, FileIsLexed}
-use Rattle.midl_parse.proofs.FromLexing.{IsLexed, terminals_lexed}
+use Rattle.midl_parse.specs.Terminals.{IsWord, IsCount, IsLexed}
+use Rattle.midl_parse.specs.Lexed.{IsCounted, CaseIsLexed, FileIsLexed}
+use Rattle.midl_parse.proofs.FromLexing.{terminals_lexed}
 
 name_keeps : Keeps IsLexed IsName IsWord
 name_keeps = keeps_one kind_of names IsWord (λ t q h. q.name h)

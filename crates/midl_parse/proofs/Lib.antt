@@ -13,3 +13,4 @@ pub mod SourceDepths
 pub mod SourceWholes
 pub mod SourceItems
 pub mod SourceFiles
+pub mod Entering

@@ -12,7 +12,8 @@ use Rattle.midl_parse.specs.declared.tree.CaseNode.{CaseNode}
 use Rattle.midl_parse.specs.Trees.{FileTree}
 use Rattle.midl_parse.specs.Values.{value_or, numbered, IsInt32}
 use Rattle.midl_parse.specs.Form.{full_name, name_in, declared, MayStand}
-use Rattle.midl_parse.specs.Lexed.{IsWord, CaseIsLexed, FileIsLexed}
+use Rattle.midl_parse.specs.Terminals.{IsWord}
+use Rattle.midl_parse.specs.Lexed.{CaseIsLexed, FileIsLexed}
 use Rattle.midl_parse.specs.Plain.{CaseIsPlain, IsPlain}
 
 both : (b x : Bool) → (b && x) ≡ true → (b ≡ true) × (x ≡ true)

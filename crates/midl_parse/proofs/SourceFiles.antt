@@ -34,7 +34,7 @@ not_deep k ts code left other e o =
     no_opens (all_fault kind_of (IsSourceWith (raised k 15) (raised k 15) IsAttribute IsBase) (source_with (raised k 15) (raised k 15) attribute_at base_at) Syntax _ _ _ (too_deep (raised k 15) (raised k 15)).low ts code left (still k ts code left other e)) o
 
 module _ (ts : List Terminal) where
-  takes : (tree : SourceTree) → source_at ts ≡ Ok tree → IsSource ts tree
+  pub takes : (tree : SourceTree) → source_at ts ≡ Ok tree → IsSource ts tree
   unfolding source_at
   takes tree = all_takes kind_of IsSource (source_with 15 15 attribute_at base_at) Syntax _ _ _ (too_deep 15 15).low ts tree
 
@@ -63,7 +63,7 @@ module _ (ts : List Terminal) where
   names FloatType left e = (λ same. absurd cc, λ o. absurd (other_code (unknown 15 15) Syntax no_unknown ts FloatType left (λ same. cc) e o))
   names TooDeep left e = (λ same. absurd cc, λ o. absurd (other_code (unknown 15 15) Syntax no_unknown ts TooDeep left (λ same. cc) e o))
 
-  faulty : (code : Code) (left : ℕ) → source_at ts ≡ Err (code, left) → IsFault ts code left
+  pub faulty : (code : Code) (left : ℕ) → source_at ts ≡ Err (code, left) → IsFault ts code left
   unfolding source_at
   faulty code left e = record { stands = stands code left e; deep = deep code left e; float = float code left e; unknown = names code left e }
 

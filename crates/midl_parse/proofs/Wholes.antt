@@ -8,7 +8,8 @@ use Rattle.grammar.proofs.Whole.{all_takes, all_again}
 use Rattle.wr_base.specs.declared.declaration.Declaration.{Declaration}
 use Rattle.wr_base.specs.declared.declaration.Declaration.TheVariants.{Enum, Struct, Delegate, Interface, Class}
 use Rattle.wr_base.specs.Normal.{normal}
-use Rattle.midl_lex.specs.Tokens.{Piece, Lexes}
+use Rattle.midl_lex.specs.Pieces.{Piece, Fits}
+use Rattle.midl_lex.specs.Tokens.{Lexes}
 use Rattle.midl_parse.specs.declared.symbol.Terminal.{Terminal}
 use Rattle.midl_parse.specs.declared.stop.Code.{Code}
 use Rattle.midl_parse.specs.declared.stop.Code.TheVariants.{Syntax}
@@ -17,7 +18,7 @@ use Rattle.midl_parse.specs.Words.{terminal_of}
 use Rattle.midl_parse.specs.Trees.{FileTree}
 use Rattle.midl_parse.specs.Grammar.{IsEnumFile}
 use Rattle.midl_parse.specs.Reading.{enum_file_at, whole_at}
-use Rattle.midl_parse.specs.Lexed.{Fits, FileIsLexed}
+use Rattle.midl_parse.specs.Lexed.{FileIsLexed}
 use Rattle.midl_parse.specs.Form.{InForm, MayStand, Spells, declared}
 use Rattle.midl_parse.specs.Plain.{IsPlain}
 use Rattle.midl_parse.specs.Spelled.{Declares, IsSpelled}

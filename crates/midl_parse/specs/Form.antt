@@ -6,7 +6,8 @@ use Rattle.wr_base.specs.declared.declaration.Case.{Case}
 use Rattle.wr_base.specs.declared.declaration.Declaration.{Declaration}
 use Rattle.wr_base.specs.declared.declaration.Declaration.TheVariants.{Enum}
 use Rattle.midl_lex.specs.Bytes.{is_white, is_word}
-use Rattle.midl_lex.specs.Tokens.{Piece, Lexes}
+use Rattle.midl_lex.specs.Pieces.{Piece}
+use Rattle.midl_lex.specs.Tokens.{Lexes}
 use Rattle.midl_parse.specs.declared.symbol.Terminal.{Terminal}
 use Rattle.midl_parse.specs.Words.{terminal_of}
 use Rattle.midl_parse.specs.Trees.{FileTree}

@@ -1,5 +1,6 @@
 pub mod Kinds
 pub mod Symbols
+pub mod Terminals
 pub mod Words
 pub mod Trees
 pub mod Grammar
@@ -15,3 +16,4 @@ pub mod SourceGrammar
 pub mod SourceReading
 pub mod SourceViews
 pub mod SourceFaults
+pub mod Entries

@@ -1,7 +1,7 @@
 -- What the steps from tokens to a declaration answer.
 use Rattle.std.specs.Prelude.{◌≡◌, List, Option, Some, None}
 use Rattle.wr_base.specs.declared.declaration.Declaration.{Declaration}
-use Rattle.midl_lex.specs.Tokens.{Piece}
+use Rattle.midl_lex.specs.Pieces.{Piece}
 use Rattle.midl_parse.specs.Trees.{FileTree}
 use Rattle.midl_parse.specs.Form.{MayStand, Spells, declared}
 use Rattle.midl_parse.specs.Plain.{IsPlain}

@@ -3,7 +3,7 @@ use Rattle.std.specs.Prelude.{ℕ, Bool, ◌||◌, ◌==◌, if◌then◌else◌
 use Rattle.std.specs.Str.{bytes_eq}
 use Rattle.midl_lex.specs.declared.token.TokenKind.{TokenKind}
 use Rattle.midl_lex.specs.declared.token.TokenKind.TheVariants as tokens
-use Rattle.midl_lex.specs.Tokens.{Piece}
+use Rattle.midl_lex.specs.Pieces.{Piece}
 use Rattle.midl_parse.specs.declared.kind.Kind.{Kind}
 use Rattle.midl_parse.specs.declared.kind.Kind.TheVariants as kinds
 use Rattle.midl_parse.specs.declared.symbol.Terminal.{Terminal}

@@ -12,7 +12,7 @@ ghost use Rattle.midl_parse.specs.SourceViews.{attribute_view};
 
 use crate::kind::Kind;
 use crate::nodes::AttributeNode;
-use crate::reading::{begins, take};
+use crate::reading::{begins, take, take_number};
 use crate::stop::{Code, Stop};
 use crate::symbol::Terminal;
 use std::alloc::Global;
@@ -22,7 +22,7 @@ fn begins_no_attribute(tokens: &[Terminal]) -> bool
 {
     match tokens {
         [] => false,
-        [token, ..] => token.kind.is_no_attribute(),
+        [token, ..] => token.kind().is_no_attribute(),
     }
 }
 
@@ -32,7 +32,7 @@ fn take_id(tokens: &[Terminal]) -> Result<(&Terminal, &[Terminal]), Stop>
     match tokens {
         [] => Err(Stop::Fault(Code::Syntax, 0)),
         [token, rest @ ..] => {
-            if token.kind.is_id() {
+            if token.kind().is_id() {
                 Ok((token, rest))
             } else {
                 Err(Stop::Fault(Code::Syntax, tokens.len()))
@@ -58,9 +58,9 @@ fn version_of(tokens: &[Terminal]) -> Result<(AttributeNode, &[Terminal]), Stop>
 {
     let (word, rest) = take(tokens, Kind::Version)?;
     let (_, rest) = take(rest, Kind::OpenParen)?;
-    let (number, rest) = take(rest, Kind::Number)?;
+    let (number, rest) = take_number(rest)?;
     let (_, rest) = take(rest, Kind::CloseParen)?;
-    Ok((AttributeNode::Version(word.clone()?, number.clone()?), rest))
+    Ok((AttributeNode::Version(word.clone()?, number), rest))
 }
 
 #[tactic(auto, unfolding(crate::specs::SourceReading::flags_at))]

@@ -9,6 +9,7 @@ ghost use Rattle.midl_parse.specs.Reading.{Gives};
 ghost use Rattle.midl_parse.specs.SourceReading.{base_at, args_at, own_at, static_at, based_at, constructor_at, rest_at, from_name_at, class_member_at, bases_at, class_body_at, class_at, dots_at, typed_at};
 ghost use Rattle.midl_parse.specs.SourceViews.{class_member_view, class_view};
 
+use crate::ident::Ident;
 use crate::kind::Kind;
 use crate::members::{event_of, member_of, typed_of, void_member_of};
 use crate::nodes::{ClassMemberNode, ClassNode, TypeNode};
@@ -24,7 +25,7 @@ fn begins_class_member(tokens: &[Terminal]) -> bool
 {
     match tokens {
         [] => false,
-        [token, ..] => token.kind.begins_class_member(),
+        [token, ..] => token.kind().begins_class_member(),
     }
 }
 
@@ -58,7 +59,7 @@ fn based_of(
 fn constructor_of(
     alloc: Global,
     depth: u32,
-    name: Terminal,
+    name: Ident,
     tokens: &[Terminal],
 ) -> Result<(ClassMemberNode, &[Terminal]), Stop>
     ensures { Gives (λ x. (class_member_view x.0, x.1.now)) result (constructor_at base_at (args_at depth) name tokens.entry.now) }
@@ -71,7 +72,7 @@ fn constructor_of(
 fn rest_of(
     alloc: Global,
     depth: u32,
-    name: Terminal,
+    name: Ident,
     tokens: &[Terminal],
 ) -> Result<(ClassMemberNode, &[Terminal]), Stop>
     ensures { Gives (λ x. (class_member_view x.0, x.1.now)) result (rest_at base_at (args_at depth) name tokens.entry.now) }

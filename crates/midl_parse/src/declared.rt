@@ -7,7 +7,7 @@ ghost use Rattle.midl_parse.specs.Spelled.{Declares};
 ghost use Rattle.midl_parse.specs.Views.{file_view};
 ghost use Rattle.wr_base.specs.declared.declaration.Declaration.TheVariants.{Enum};
 
-use crate::symbol::Terminal;
+use crate::ident::Ident;
 use crate::tree::EnumFile;
 use crate::values::{are_distinct, are_int32, numbered};
 use ranked::Memory;
@@ -20,24 +20,24 @@ const LONGEST_NAME: usize = 511;
 /// The most cases of an enum.
 const MOST_CASES: usize = 200;
 
-fn is_in_windows(space: &[Terminal]) -> bool
+fn is_in_windows(space: &[Ident]) -> bool
     ensures { IsTrue result ↔ IsInWindows space.now }
 {
     match space {
         [] => false,
-        [part, ..] => part.text.as_str().eq_ignore_ascii_case("windows"),
+        [part, ..] => part.as_str().eq_ignore_ascii_case("windows"),
     }
 }
 
-fn full_name(alloc: Global, space: &[Terminal], name: &Terminal) -> Result<String, Memory>
+fn full_name(alloc: Global, space: &[Ident], name: &Ident) -> Result<String, Memory>
     ensures { IfOk result (λ text. string_bytes text ≡ full_name space.now name.now) }
 {
     let mut text = String::new(alloc);
     for part in space {
-        text.push_str(part.text.as_str())?;
+        text.push_str(part.as_str())?;
         text.push_str(".")?;
     }
-    text.push_str(name.text.as_str())?;
+    text.push_str(name.as_str())?;
     Ok(text)
 }
 

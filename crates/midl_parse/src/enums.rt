@@ -6,7 +6,9 @@ ghost use Rattle.midl_parse.specs.Reading.{Gives, value_at, case_at, more_cases_
 ghost use Rattle.midl_parse.specs.Views.{enum_view, file_view};
 
 use crate::kind::Kind;
-use crate::reading::{begins, begins_name, dotted_of, take, take_if, take_name, take_own_name};
+use crate::reading::{
+    begins, begins_name, dotted_of, take, take_if, take_name, take_number, take_own_name,
+};
 use crate::stop::{Code, Stop};
 use crate::symbol::Terminal;
 use crate::tree::{CaseNode, EnumFile, EnumNode, Value};
@@ -18,8 +20,7 @@ fn value_of(tokens: &[Terminal]) -> Result<(Value, &[Terminal]), Stop>
 {
     let (_, rest) = take(tokens, Kind::Equals)?;
     let (negated, rest) = take_if(rest, Kind::Minus);
-    let (number, rest) = take(rest, Kind::Number)?;
-    let number = number.clone()?;
+    let (number, rest) = take_number(rest)?;
     Ok((Value { negated, number }, rest))
 }
 

@@ -1,11 +1,10 @@
 //! The files that state one enum and nothing else.
 
-ghost use Rattle.std.specs.Prelude.{◌≡◌, ◌≤◌, ◌∷◌, [], length, map, IfOk, MatchOption};
+ghost use Rattle.std.specs.Prelude.{◌≡◌, ◌≤◌, ◌∷◌, [], length, IfOk, MatchOption};
 ghost use Rattle.std.specs.List.{All, list_all};
 ghost use Rattle.wr_base.specs.declared.declaration.Declaration.{Declaration};
-ghost use Rattle.midl_lex.specs.Tokens.{token_view};
+ghost use Rattle.midl_lex.specs.Pieces.{Fits};
 ghost use Rattle.midl_parse.specs.Form.{InForm, in_alphabet};
-ghost use Rattle.midl_parse.specs.Lexed.{Fits};
 ghost use Rattle.midl_parse.specs.Plain.{IsPlain};
 ghost use Rattle.midl_parse.specs.Spelled.{IsSpelled};
 
@@ -36,8 +35,8 @@ fn is_plain(bytes: &[u8]) -> bool
 
 /// The declaration that tokens spell, exactly where they spell one namespace with one enum.
 fn spelled(alloc: Global, tokens: &[Token]) -> Result<Option<Declaration>, Memory>
-    requires { All Fits (map token_view tokens.now) }
-    ensures { IfOk result (IsSpelled (map token_view tokens.now)) }
+    requires { All Fits tokens.now }
+    ensures { IfOk result (IsSpelled tokens.now) }
 {
     let terminals = terminals_of(alloc, tokens)?;
     match whole_of(alloc, &terminals) {

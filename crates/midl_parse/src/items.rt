@@ -28,7 +28,7 @@ fn begins_declared(tokens: &[Terminal]) -> bool
 {
     match tokens {
         [] => false,
-        [token, ..] => token.kind.begins_declared(),
+        [token, ..] => token.kind().begins_declared(),
     }
 }
 
@@ -37,7 +37,7 @@ fn begins_item(tokens: &[Terminal]) -> bool
 {
     match tokens {
         [] => false,
-        [token, ..] => token.kind.begins_item(),
+        [token, ..] => token.kind().begins_item(),
     }
 }
 

@@ -1,21 +1,25 @@
 //! MIDL text: the grammar's productions over tokens, and the trees that tokens have.
 //!
-//! `enums_of` answers the set of the one enum of a file exactly where the file is in the form of one namespace with one enum. The whole grammar stands beside it,
-//! with its reader, which no public call uses yet.
+//! `parse` reads a file's tokens: it answers their tree exactly where they have one, and else refuses with the first token at which no file goes on. `enums_of` answers
+//! the set of the one enum of a file exactly where the file is in the form of one namespace with one enum.
 #![tactic(auto)]
 
 mod attributes;
 mod classes;
 mod declared;
 mod enums;
+mod files;
 mod form;
+mod ident;
 mod items;
 mod kind;
 mod lists;
 mod members;
 mod nodes;
+mod numeral;
 mod parsing;
 mod reading;
+mod refusal;
 mod signatures;
 mod stop;
 mod structs;
@@ -26,5 +30,15 @@ mod unique;
 mod values;
 mod words;
 
+pub use files::parse;
 pub use form::enums_of;
-pub use unique::{one_declaration, one_tree};
+pub use ident::Ident;
+pub use kind::Kind;
+pub use nodes::{
+    AttributeNode, ClassMemberNode, ClassNode, DeclNode, DelegateNode, FieldsNode, File,
+    InterfaceNode, ItemNode, MemberNode, ParamNode, StructNode, TypeNode,
+};
+pub use numeral::Numeral;
+pub use symbol::Terminal;
+pub use tree::{CaseNode, EnumNode, Value};
+pub use unique::{one_declaration, one_tree, tree_or_fault};

@@ -8,6 +8,7 @@ ghost use Rattle.midl_parse.specs.Symbols.{kind_of};
 ghost use Rattle.midl_parse.specs.Reading.{Gives, is_at, name_at, behind_at};
 ghost use Rattle.midl_parse.specs.SourceReading.{listed_at, import_at};
 
+use crate::ident::Ident;
 use crate::kind::Kind;
 use crate::reading::{begins, take, take_name};
 use crate::stop::Stop;
@@ -15,7 +16,7 @@ use crate::symbol::Terminal;
 use std::alloc::Global;
 
 #[tactic(auto, unfolding(crate::specs::Reading::behind_at))]
-fn comma_name(tokens: &[Terminal]) -> Result<(Terminal, &[Terminal]), Stop>
+fn comma_name(tokens: &[Terminal]) -> Result<(Ident, &[Terminal]), Stop>
     ensures { Gives (λ x. (x.0, x.1.now)) result (behind_at Comma name_at tokens.now) }
 {
     let (_, rest) = take(tokens, Kind::Comma)?;
@@ -23,9 +24,9 @@ fn comma_name(tokens: &[Terminal]) -> Result<(Terminal, &[Terminal]), Stop>
 }
 
 pub(crate) fn more_names(
-    mut names: Vec<Terminal>,
+    mut names: Vec<Ident>,
     tokens: &[Terminal],
-) -> Result<(Vec<Terminal>, &[Terminal]), Stop>
+) -> Result<(Vec<Ident>, &[Terminal]), Stop>
     ensures { Gives (λ x. (x.0.items, x.1.now)) result (after_front names.items (many_at kind_of (number_of Comma ∷ []) (behind_at Comma name_at)) tokens.entry.now) }
 {
     let mut rest = tokens;
@@ -41,7 +42,7 @@ pub(crate) fn more_names(
 pub(crate) fn names_of(
     alloc: Global,
     tokens: &[Terminal],
-) -> Result<(Vec<Terminal>, &[Terminal]), Stop>
+) -> Result<(Vec<Ident>, &[Terminal]), Stop>
     ensures { Gives (λ x. (x.0.items, x.1.now)) result (listed_at name_at tokens.now) }
 {
     let (first, rest) = take_name(tokens)?;

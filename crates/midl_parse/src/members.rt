@@ -9,6 +9,7 @@ ghost use Rattle.midl_parse.specs.Reading.{Gives};
 ghost use Rattle.midl_parse.specs.SourceReading.{base_at, args_at, set_end_at, get_first_at, set_first_at, accessors_at, method_at, property_at, properties_at, typed_at, void_member_at, event_at, typed_member_at, member_at, required_at, body_at, interface_at};
 ghost use Rattle.midl_parse.specs.SourceViews.{type_view, types_view, member_view, interface_view};
 
+use crate::ident::Ident;
 use crate::kind::Kind;
 use crate::lists::more_names;
 use crate::nodes::{InterfaceNode, MemberNode, TypeNode};
@@ -24,7 +25,7 @@ fn begins_member(tokens: &[Terminal]) -> bool
 {
     match tokens {
         [] => false,
-        [token, ..] => token.kind.begins_member(),
+        [token, ..] => token.kind().begins_member(),
     }
 }
 
@@ -78,7 +79,7 @@ fn method_of(
     alloc: Global,
     depth: u32,
     outcome: Option<TypeNode>,
-    name: Terminal,
+    name: Ident,
     tokens: &[Terminal],
 ) -> Result<(MemberNode, &[Terminal]), Stop>
     ensures { Gives (λ x. (member_view x.0, x.1.now)) result (method_at base_at (args_at depth) (option_map type_view outcome) name tokens.entry.now) }
@@ -91,7 +92,7 @@ fn method_of(
 fn property_of(
     depth: u32,
     kind: TypeNode,
-    name: Terminal,
+    name: Ident,
     tokens: &[Terminal],
 ) -> Result<(MemberNode, &[Terminal]), Stop>
     ensures { Gives (λ x. (member_view x.0, x.1.now)) result (property_at base_at (args_at depth) (type_view kind) name tokens.entry.now) }
@@ -105,7 +106,7 @@ fn properties_of(
     alloc: Global,
     _depth: u32,
     kind: TypeNode,
-    name: Terminal,
+    name: Ident,
     tokens: &[Terminal],
 ) -> Result<(MemberNode, &[Terminal]), Stop>
     ensures { Gives (λ x. (member_view x.0, x.1.now)) result (properties_at base_at (args_at _depth) (type_view kind) name tokens.entry.now) }

@@ -1,5 +1,7 @@
 //! The nodes of a file: one kind for each production of the grammar.
 
+use crate::ident::Ident;
+use crate::numeral::Numeral;
 use crate::symbol::Terminal;
 use crate::tree::EnumNode;
 
@@ -7,14 +9,14 @@ use crate::tree::EnumNode;
 #[derive(Debug, Drop)]
 pub enum TypeNode {
     Base(Terminal),
-    Named(Vec<Terminal>, Vec<TypeNode>),
+    Named(Vec<Ident>, Vec<TypeNode>),
 }
 
 /// An attribute, by its word.
 #[derive(Debug, Drop)]
 pub enum AttributeNode {
     Uuid(Terminal, Terminal),
-    Version(Terminal, Terminal),
+    Version(Terminal, Numeral),
     Flags(Terminal),
     DefaultInterface(Terminal),
 }
@@ -23,12 +25,12 @@ pub enum AttributeNode {
 #[derive(Debug, Drop)]
 pub struct FieldsNode {
     pub kind: TypeNode,
-    pub names: Vec<Terminal>,
+    pub names: Vec<Ident>,
 }
 
 #[derive(Debug, Drop)]
 pub struct StructNode {
-    pub name: Terminal,
+    pub name: Ident,
     pub fields: Vec<FieldsNode>,
 }
 
@@ -36,31 +38,31 @@ pub struct StructNode {
 pub struct ParamNode {
     pub out: bool,
     pub kind: TypeNode,
-    pub name: Terminal,
+    pub name: Ident,
 }
 
 /// A delegate, with no type where it returns nothing.
 #[derive(Debug, Drop)]
 pub struct DelegateNode {
     pub outcome: Option<TypeNode>,
-    pub name: Terminal,
+    pub name: Ident,
     pub params: Vec<ParamNode>,
 }
 
 #[derive(Debug, Drop)]
 pub enum MemberNode {
     /// A method, with no type where it returns nothing.
-    Method(Option<TypeNode>, Terminal, Vec<ParamNode>),
-    Event(TypeNode, Terminal),
+    Method(Option<TypeNode>, Ident, Vec<ParamNode>),
+    Event(TypeNode, Ident),
     /// Properties of one type without accessors.
-    Properties(TypeNode, Vec<Terminal>),
+    Properties(TypeNode, Vec<Ident>),
     /// A property with accessors, and whether it has a set.
-    Property(TypeNode, Terminal, bool),
+    Property(TypeNode, Ident, bool),
 }
 
 #[derive(Debug, Drop)]
 pub struct InterfaceNode {
-    pub name: Terminal,
+    pub name: Ident,
     pub required: Vec<TypeNode>,
     pub members: Vec<MemberNode>,
 }
@@ -69,13 +71,13 @@ pub struct InterfaceNode {
 pub enum ClassMemberNode {
     /// A member, and whether it is static.
     Member(bool, MemberNode),
-    Constructor(Terminal, Vec<ParamNode>),
+    Constructor(Ident, Vec<ParamNode>),
 }
 
 #[derive(Debug, Drop)]
 pub struct ClassNode {
     pub fixed: bool,
-    pub name: Terminal,
+    pub name: Ident,
     pub bases: Vec<TypeNode>,
     pub members: Vec<ClassMemberNode>,
 }
@@ -91,14 +93,15 @@ pub enum DeclNode {
 
 #[derive(Debug, Drop)]
 pub enum ItemNode {
-    Namespace(Vec<Terminal>, Vec<ItemNode>),
+    Namespace(Vec<Ident>, Vec<ItemNode>),
     /// A declaration behind its groups of attributes.
     Declared(Vec<Vec<AttributeNode>>, DeclNode),
 }
 
-/// A file: its imports, and its namespaces.
+/// A file: its number in its set, its imports, and its namespaces.
 #[derive(Debug, Drop)]
 pub struct File {
+    pub number: u32,
     pub imports: Vec<Vec<Terminal>>,
     pub items: Vec<ItemNode>,
 }

@@ -18,25 +18,32 @@ use std::alloc::Global;
 const DEPTH: u32 = 15;
 
 #[tactic(auto, unfolding(crate::specs::SourceReading::source_at, crate::specs::SourceReading::source_with))]
-fn all_of(alloc: Global, tokens: &[Terminal]) -> Result<File, Stop>
-    ensures { Gives source_view result (source_at tokens.now) }
+fn all_of(alloc: Global, number: u32, tokens: &[Terminal]) -> Result<File, Stop>
+    ensures gives { Gives source_view result (source_at tokens.now) }
+    ensures number { IfOk result (λ file. file.number ≡ number) }
 {
     let (imports, rest) = imports_of(alloc, tokens)?;
     let (items, rest) = spaces_of(alloc, DEPTH, DEPTH, rest)?;
     match rest {
-        [] => Ok(File { imports, items }),
+        [] => Ok(File {
+            number,
+            imports,
+            items,
+        }),
         [_, ..] => Err(Stop::Fault(Code::Syntax, rest.len())),
     }
 }
 
 /// The tree of a file's tokens, exactly where they have one; else the first fault.
-pub(crate) fn source_of(alloc: Global, tokens: &[Terminal]) -> Result<File, Stop>
+pub(crate) fn source_of(alloc: Global, number: u32, tokens: &[Terminal]) -> Result<File, Stop>
     // What is read is a tree of the tokens.
     ensures found { IfOk result (λ file. IsSource tokens.now (source_view file)) }
     // Tokens that have a tree have this one alone, and it is read, unless memory runs out.
     ensures only { (tree : SourceTree) → IsSource tokens.now tree → Gives source_view result (Ok tree) }
+    // The file has its number.
+    ensures number { IfOk result (λ file. file.number ≡ number) }
     // A fault stands at the first token at which no file goes on.
     ensures fault { IfErr result (λ stop. StandsAt tokens.now stop) }
 {
-    all_of(alloc, tokens)
+    all_of(alloc, number, tokens)
 }

@@ -2,12 +2,14 @@
 
 ghost use Rattle.std.specs.Prelude.{◌≡◌, ◌∷◌, [], Ok};
 ghost use Rattle.grammar.specs.Readers.{starts, after_front};
-ghost use Rattle.midl_parse.specs.declared.kind.Kind.TheVariants.{Dot};
+ghost use Rattle.midl_parse.specs.declared.kind.Kind.TheVariants.{Dot, Number};
 ghost use Rattle.midl_parse.specs.Kinds.{number_of, names};
 ghost use Rattle.midl_parse.specs.Symbols.{kind_of};
 ghost use Rattle.midl_parse.specs.Reading.{Gives, is_at, is_there_at, name_at, own_name_at, behind_at, more_dots_at, dotted_at};
 
+use crate::ident::Ident;
 use crate::kind::Kind;
+use crate::numeral::Numeral;
 use crate::stop::{Code, Stop};
 use crate::symbol::Terminal;
 use std::alloc::Global;
@@ -18,7 +20,7 @@ pub(crate) fn begins(tokens: &[Terminal], kind: Kind) -> bool
 {
     match tokens {
         [] => false,
-        [token, ..] => token.kind.is(kind),
+        [token, ..] => token.kind().is(kind),
     }
 }
 
@@ -29,7 +31,7 @@ pub(crate) fn take(tokens: &[Terminal], kind: Kind) -> Result<(&Terminal, &[Term
     match tokens {
         [] => Err(Stop::Fault(Code::Syntax, 0)),
         [token, rest @ ..] => {
-            if token.kind.is(kind) {
+            if token.kind().is(kind) {
                 Ok((token, rest))
             } else {
                 Err(Stop::Fault(Code::Syntax, tokens.len()))
@@ -46,7 +48,7 @@ pub(crate) fn take_if(tokens: &[Terminal], kind: Kind) -> (bool, &[Terminal])
     match tokens {
         [] => (false, tokens),
         [token, rest @ ..] => {
-            if token.kind.is(kind) {
+            if token.kind().is(kind) {
                 (true, rest)
             } else {
                 (false, tokens)
@@ -61,19 +63,19 @@ pub(crate) fn begins_name(tokens: &[Terminal]) -> bool
 {
     match tokens {
         [] => false,
-        [token, ..] => token.kind.is_name(),
+        [token, ..] => token.kind().is_name(),
     }
 }
 
 /// The next token, which has to be a Name.
-pub(crate) fn take_name(tokens: &[Terminal]) -> Result<(Terminal, &[Terminal]), Stop>
+pub(crate) fn take_name(tokens: &[Terminal]) -> Result<(Ident, &[Terminal]), Stop>
     ensures { Gives (λ x. (x.0, x.1.now)) result (name_at tokens.now) }
 {
     match tokens {
         [] => Err(Stop::Fault(Code::Syntax, 0)),
         [token, rest @ ..] => {
-            if token.kind.is_name() {
-                Ok((token.clone()?, rest))
+            if token.kind().is_name() {
+                Ok((Ident::of(token)?, rest))
             } else {
                 Err(Stop::Fault(Code::Syntax, tokens.len()))
             }
@@ -82,14 +84,30 @@ pub(crate) fn take_name(tokens: &[Terminal]) -> Result<(Terminal, &[Terminal]), 
 }
 
 /// The next token, which has to be the Name of a declared type.
-pub(crate) fn take_own_name(tokens: &[Terminal]) -> Result<(Terminal, &[Terminal]), Stop>
+pub(crate) fn take_own_name(tokens: &[Terminal]) -> Result<(Ident, &[Terminal]), Stop>
     ensures { Gives (λ x. (x.0, x.1.now)) result (own_name_at tokens.now) }
 {
     match tokens {
         [] => Err(Stop::Fault(Code::Syntax, 0)),
         [token, rest @ ..] => {
-            if token.kind.is_own_name() {
-                Ok((token.clone()?, rest))
+            if token.kind().is_own_name() {
+                Ok((Ident::of(token)?, rest))
+            } else {
+                Err(Stop::Fault(Code::Syntax, tokens.len()))
+            }
+        }
+    }
+}
+
+/// The next token, which has to be a Number.
+pub(crate) fn take_number(tokens: &[Terminal]) -> Result<(Numeral, &[Terminal]), Stop>
+    ensures { Gives (λ x. (x.0, x.1.now)) result (is_at Number tokens.now) }
+{
+    match tokens {
+        [] => Err(Stop::Fault(Code::Syntax, 0)),
+        [token, rest @ ..] => {
+            if token.kind().is(Kind::Number) {
+                Ok((Numeral::of(token)?, rest))
             } else {
                 Err(Stop::Fault(Code::Syntax, tokens.len()))
             }
@@ -98,7 +116,7 @@ pub(crate) fn take_own_name(tokens: &[Terminal]) -> Result<(Terminal, &[Terminal
 }
 
 #[tactic(auto, unfolding(crate::specs::Reading::behind_at))]
-fn dot_name_of(tokens: &[Terminal]) -> Result<(Terminal, &[Terminal]), Stop>
+fn dot_name_of(tokens: &[Terminal]) -> Result<(Ident, &[Terminal]), Stop>
     ensures { Gives (λ x. (x.0, x.1.now)) result (behind_at Dot name_at tokens.now) }
 {
     let (_, rest) = take(tokens, Kind::Dot)?;
@@ -107,9 +125,9 @@ fn dot_name_of(tokens: &[Terminal]) -> Result<(Terminal, &[Terminal]), Stop>
 
 /// More names, each behind a dot.
 pub(crate) fn more_dots(
-    mut names: Vec<Terminal>,
+    mut names: Vec<Ident>,
     tokens: &[Terminal],
-) -> Result<(Vec<Terminal>, &[Terminal]), Stop>
+) -> Result<(Vec<Ident>, &[Terminal]), Stop>
     ensures { Gives (λ x. (x.0.items, x.1.now)) result (after_front names.items more_dots_at tokens.entry.now) }
 {
     let mut rest = tokens;
@@ -126,7 +144,7 @@ pub(crate) fn more_dots(
 pub(crate) fn dotted_of(
     alloc: Global,
     tokens: &[Terminal],
-) -> Result<(Vec<Terminal>, &[Terminal]), Stop>
+) -> Result<(Vec<Ident>, &[Terminal]), Stop>
     ensures { Gives (λ x. (x.0.items, x.1.now)) result (dotted_at tokens.now) }
 {
     let (first, rest) = take_name(tokens)?;

@@ -22,7 +22,7 @@ fn begins_param(tokens: &[Terminal]) -> bool
 {
     match tokens {
         [] => false,
-        [token, ..] => token.kind.begins_param(),
+        [token, ..] => token.kind().begins_param(),
     }
 }
 

@@ -1,31 +1,33 @@
 //! A node for each production.
 
+use crate::ident::Ident;
+use crate::numeral::Numeral;
 use crate::symbol::Terminal;
 
 /// A number behind `=`, and whether it is negated.
 #[derive(Debug, Drop)]
 pub struct Value {
     pub negated: bool,
-    pub number: Terminal,
+    pub number: Numeral,
 }
 
 /// A case of an enum, with its value where one is written.
 #[derive(Debug, Drop)]
 pub struct CaseNode {
-    pub name: Terminal,
+    pub name: Ident,
     pub value: Option<Value>,
 }
 
 /// An enum.
 #[derive(Debug, Drop)]
 pub struct EnumNode {
-    pub name: Terminal,
+    pub name: Ident,
     pub cases: Vec<CaseNode>,
 }
 
 /// A file that holds one namespace with one enum.
 #[derive(Debug, Drop)]
 pub struct EnumFile {
-    pub space: Vec<Terminal>,
+    pub space: Vec<Ident>,
     pub declared: EnumNode,
 }

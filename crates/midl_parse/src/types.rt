@@ -9,6 +9,7 @@ ghost use Rattle.midl_parse.specs.Reading.{Gives, behind_at};
 ghost use Rattle.midl_parse.specs.SourceReading.{base_at, listed_at, path_at, bracketed_at, args_at, types_at};
 ghost use Rattle.midl_parse.specs.SourceViews.{type_view, types_view};
 
+use crate::ident::Ident;
 use crate::kind::Kind;
 use crate::nodes::TypeNode;
 use crate::reading::{begins, more_dots, take, take_own_name};
@@ -21,7 +22,7 @@ pub(crate) fn begins_base(tokens: &[Terminal]) -> bool
 {
     match tokens {
         [] => false,
-        [token, ..] => token.kind.is_base_or_float(),
+        [token, ..] => token.kind().is_base_or_float(),
     }
 }
 
@@ -37,7 +38,7 @@ pub(crate) fn base_of(tokens: &[Terminal]) -> Result<(TypeNode, &[Terminal]), St
 }
 
 #[tactic(auto, unfolding(crate::specs::SourceReading::path_at))]
-fn path_of(alloc: Global, tokens: &[Terminal]) -> Result<(Vec<Terminal>, &[Terminal]), Stop>
+fn path_of(alloc: Global, tokens: &[Terminal]) -> Result<(Vec<Ident>, &[Terminal]), Stop>
     ensures { Gives (λ x. (x.0.items, x.1.now)) result (path_at tokens.now) }
 {
     let (first, rest) = take_own_name(tokens)?;

@@ -1,13 +1,16 @@
 //! What holds of the definitions alone.
 
-ghost use Rattle.std.specs.Prelude.{◌≡◌, List, map};
+ghost use Rattle.std.specs.Prelude.{◌≡◌, List, Some, None, map};
 ghost use Rattle.wr_base.specs.declared.declaration.Declaration.{Declaration};
 ghost use Rattle.midl_parse.specs.Form.{InForm};
 ghost use Rattle.midl_parse.specs.Plain.{IsPlain};
-ghost use Rattle.midl_lex.specs.Tokens.{Piece};
+ghost use Rattle.ranked.specs.Entries.{Entry};
+ghost use Rattle.ranked.specs.First.{IsFirst};
+ghost use Rattle.midl_lex.specs.Pieces.{Piece};
 ghost use Rattle.midl_parse.specs.Words.{terminal_of};
 ghost use Rattle.midl_parse.specs.SourceTrees.{SourceTree};
 ghost use Rattle.midl_parse.specs.SourceGrammar.{IsSource};
+ghost use Rattle.midl_parse.specs.Entries.{Parsing};
 
 /// A file states at most one enum in the form, and what it states keeps to the limits of an enum.
 pub fn one_declaration(_bytes: &[u8])
@@ -18,4 +21,10 @@ pub fn one_declaration(_bytes: &[u8])
 /// Tokens have at most one tree.
 pub fn one_tree()
     ensures { (pieces : List Piece) (a b : SourceTree) → IsSource (map terminal_of pieces) a → IsSource (map terminal_of pieces) b → a ≡ b }
+{}
+
+/// Tokens that have a tree have no fault, and tokens that have none have a first one.
+pub fn tree_or_fault(_file: u32)
+    ensures none { (pieces : List Piece) (tree : SourceTree) → IsSource (map terminal_of pieces) tree → IsFirst (Parsing _file pieces) None }
+    ensures first { (pieces : List Piece) → ((tree : SourceTree) → ¬ (IsSource (map terminal_of pieces) tree)) → (e : Entry) × IsFirst (Parsing _file pieces) (Some e) }
 {}

@@ -3,37 +3,24 @@
 ghost use Rattle.std.specs.Prelude.{◌≡◌, ◌↔◌, ℕ, ◌+◌, ◌^◌, ◌≤◌, ◌≤ℤ◌, pos, neg_ℤ, map, string_bytes, length, IfOk, IsTrue, MatchBool};
 ghost use Rattle.std.specs.Char.{to_ascii_lowercase};
 ghost use Rattle.std.specs.List.{All};
-ghost use Rattle.midl_lex.specs.Numbers.{value_of};
 ghost use Rattle.midl_parse.specs.Values.{written, value_or, numbered, IsInt32, AreDistinct, lower_name};
-ghost use Rattle.midl_parse.specs.Lexed.{IsCount, IsCounted, CaseIsLexed};
 
-use crate::symbol::Terminal;
 use crate::tree::{CaseNode, Value};
-use midl_lex::number_value;
 use ranked::{Memory, Name};
 use std::alloc::Global;
 use std::collections::BTreeSet;
 use wr_base::Case;
 
-fn count_of(number: &Terminal) -> u64
-    requires { IsCount number.now }
-    ensures { result ≡ value_of number.now.text }
-{
-    number_value(number.text.as_str().as_bytes())
-}
-
 fn written(value: &Value) -> i128
-    requires { IsCount value.now.number }
     ensures value { result ≡ written value.now }
     ensures low { neg_ℤ (pos (2 ^ 64)) ≤ℤ result }
     ensures high { result ≤ℤ pos (2 ^ 64) }
 {
-    let number = count_of(&value.number) as i128;
+    let number = value.number.value() as i128;
     if value.negated { -number } else { number }
 }
 
 fn value_or(next: &i128, value: &Option<Value>) -> i128
-    requires { IsCounted value.now }
     ensures value { result ≡ value_or next.now value.now }
     ensures low { neg_ℤ (pos (2 ^ 64)) ≤ℤ next.now → neg_ℤ (pos (2 ^ 64)) ≤ℤ result }
     ensures high { (top : ℕ) → 2 ^ 64 ≤ top → next.now ≤ℤ pos top → result ≤ℤ pos top }
@@ -46,7 +33,6 @@ fn value_or(next: &i128, value: &Option<Value>) -> i128
 
 /// The cases with their values: one without a value has the last one plus one.
 pub(crate) fn numbered(alloc: Global, nodes: &[CaseNode]) -> Result<Vec<Case>, Memory>
-    requires { All CaseIsLexed nodes.now }
     ensures { IfOk result (λ v. v.items ≡ numbered (pos 0) nodes.now) }
 {
     let mut cases = Vec::new(alloc);
@@ -54,7 +40,7 @@ pub(crate) fn numbered(alloc: Global, nodes: &[CaseNode]) -> Result<Vec<Case>, M
     for node in nodes {
         let value = value_or(&next, &node.value);
         cases.push(Case {
-            name: node.name.text.clone()?,
+            name: Name::new(String::from_str(alloc, node.name.as_str())?),
             value,
         })?;
         next = value + 1;

@@ -1,11 +1,8 @@
 //! Which kind of token a word or a mark is.
 
 ghost use Rattle.std.specs.Prelude.{◌≡◌, IfOk, map};
-ghost use Rattle.std.specs.List.{All};
 ghost use Rattle.std.specs.Str.{IsAscii};
-ghost use Rattle.midl_lex.specs.Tokens.{token_view};
 ghost use Rattle.midl_parse.specs.Words.{is_base, is_float, kind_of_name, kind_of_word, kind_of_byte, kind_of_mark, kind_by, text_by, terminal_of};
-ghost use Rattle.midl_parse.specs.Lexed.{Fits};
 
 use crate::kind::Kind;
 use crate::symbol::Terminal;
@@ -149,20 +146,16 @@ fn text_by(alloc: Global, kind: TokenKind, text: &[u8]) -> Result<Name, Memory>
 }
 
 fn terminal_of(alloc: Global, token: &Token) -> Result<Terminal, Memory>
-    requires { Fits (token_view token.now) }
-    ensures { IfOk result (λ terminal. terminal ≡ terminal_of (token_view token.now)) }
+    ensures { IfOk result (λ terminal. terminal ≡ terminal_of token.now) }
 {
-    Ok(Terminal {
-        offset: token.offset,
-        kind: kind_by(token.kind, token.text),
-        text: text_by(alloc, token.kind, token.text)?,
-    })
+    let text = token.text();
+    let spelling = text_by(alloc, token.kind(), text)?;
+    Ok(Terminal::new(token.offset(), kind_by(token.kind(), text), spelling))
 }
 
 /// The tokens as the grammar sees them.
 pub(crate) fn terminals_of(alloc: Global, tokens: &[Token]) -> Result<Vec<Terminal>, Memory>
-    requires { All Fits (map token_view tokens.now) }
-    ensures { IfOk result (λ v. v.items ≡ map terminal_of (map token_view tokens.now)) }
+    ensures { IfOk result (λ v. v.items ≡ map terminal_of tokens.now) }
 {
     let mut terminals = Vec::new(alloc);
     for token in tokens {

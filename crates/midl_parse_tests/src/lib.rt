@@ -2,4 +2,10 @@
 #![tactic(auto)]
 
 #[cfg(test)]
+mod cases;
+#[cfg(test)]
+mod parsing;
+#[cfg(test)]
+mod show;
+#[cfg(test)]
 mod tests;

@@ -1,5 +1,4 @@
-use Rattle.std.proofs.Common.{map, ap, subst, ◌∙◌}
-use Rattle.midl_lex.specs.Tokens.{token_view}
+use Rattle.std.proofs.Common.{subst, ◌∙◌}
 use Rattle.midl_parse.specs.Spelled.{IsSpelled}
 use Rattle.midl_parse.proofs.FromLexing.{pieces_fit}
 use Rattle.midl_parse.proofs.Wholes.{none_form}
@@ -13,6 +12,6 @@ spelled-requires c = rw c.deref.ensures.value (pieces_fit c.args.bytes.now _ c.i
 
 pub returns-in-None-clause-form : goal.returns-in-None-clause-form
 returns-in-None-clause-form c =
-    none_form c.args.bytes.now (map token_view c.deref.result.now)
-    (λ pieces l. ap (map token_view) c.deref.ensures.value ∙ c.in-Ok.ensures.only pieces l)
-    (subst (IsSpelled (map token_view c.deref.result.now)) c.in-None.is c.in_ok-spelled.ensures)
+    none_form c.args.bytes.now c.deref.result.now
+    (λ pieces l. c.deref.ensures.value ∙ c.in-Ok.ensures.only pieces l)
+    (subst (IsSpelled c.deref.result.now) c.in-None.is c.in_ok-spelled.ensures)

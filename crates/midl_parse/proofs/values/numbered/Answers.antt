@@ -13,7 +13,7 @@ loop-node-preserved c =
     let next : to_z w128 (of_z w128 (to_z w128 (of_z w128 c.value_or-value.result) +ℤ pos 1)) ≡ c.value_or-value.result +ℤ pos 1 = omega (arith, ints, low, high) in
     let step = numbered_more c.loop-node.cases.items (to_z w128 c.loop-node.next-bits) c.value_or-value.result c.args.nodes.now c.loop-node.node-index c.node-item.result _ (omega arith) c.node-item.is
     c.value_or-value.ensures.value c.loop-node.invariant.so_far in
-    let named : c.in_ok-clone.field-0 ≡ c.node-item.result.name.text = search rules in
+    let named : c.new.result ≡ c.node-item.result.name.text = search rules in
     record {
       so_far = rw (c.in_ok-push.ensures.items, next, is, named) step;
       low = rw next (omega (arith, ints, low));

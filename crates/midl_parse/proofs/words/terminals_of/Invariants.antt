@@ -1,7 +1,6 @@
 use Rattle.std.proofs.Common.{◌≡◌, map, take}
-use Rattle.midl_lex.specs.Tokens.{token_view}
 use Rattle.midl_parse.specs.Words.{terminal_of}
 use Rattle.midl_parse.proofs.words.terminals_of.Given as goal
 
 abbrev pub invariant-loop-token : goal.invariant-loop-token
-invariant-loop-token l = l.terminals.items ≡ map terminal_of (map token_view (take l.token-index l.tokens))
+invariant-loop-token l = l.terminals.items ≡ map terminal_of (take l.token-index l.tokens)
