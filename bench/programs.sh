@@ -27,3 +27,18 @@ built() {
     shift
     (cd "$work/crates/$built_name" && rt run -- "$@") > "$work/built" 2>&1 || { cat "$work/built" >&2; exit 1; }
 }
+
+# timed NAME N 'FIRST' 'SECOND': runs a built program at N and at 2N, five times each. It prints its number and two times in
+# microseconds; what is shown is the least of each, and how many times as long twice the number takes.
+timed() {
+    for number in "$2" $((2 * $2)); do
+        for _ in 1 2 3 4 5; do "$work/crates/$1/out/$1" "$number"; done
+    done | awk -v first="$3" -v second="$4" '
+        !($1 in one) { numbers[++kinds] = $1; one[$1] = $2; other[$1] = $3 }
+        $2 < one[$1] { one[$1] = $2 }
+        $3 < other[$1] { other[$1] = $3 }
+        END {
+            for (i = 1; i <= kinds; i++) printf "%d: %s %.3f s, %s %.3f s\n", numbers[i], first, one[numbers[i]] / 1e6, second, other[numbers[i]] / 1e6
+            printf "twice as many take %.2f and %.2f times as long\n", one[numbers[2]] / one[numbers[1]], other[numbers[2]] / other[numbers[1]]
+        }'
+}

@@ -10,8 +10,6 @@ mod guids;
 mod integers;
 mod parts;
 mod store;
-#[cfg(test)]
-mod tests;
 mod texts;
 
 pub use blobs::{BlobHeap, blob_at};

@@ -1,12 +1,11 @@
 -- Bits of Valid, counted and read in loops.
-use Rattle.std.proofs.Common.{◌≡◌, ℕ, zero, suc, ◌+◌, ◌-◌, ◌*◌, ◌/◌, ◌%◌, ◌^◌, ◌<◌, ◌≤◌, true, cond, ltb, List, [], ◌++◌, length, get_or, drop, refl, ap, subst, ◌∙◌, arith, length-drop, add-zero}
+use Rattle.std.proofs.Common.{◌≡◌, ℕ, zero, suc, ◌+◌, ◌-◌, ◌/◌, ◌%◌, ◌^◌, ◌<◌, ◌≤◌, true, List, length, drop, refl, ap, subst, ◌∙◌, arith, length-drop, add-zero}
 use Rattle.std.proofs.Math.Pow.{pow_mono}
-use Rattle.std.proofs.lemmas.List.{drop_more}
 use Rattle.std.proofs.lemmas.Bool.{eqb-true}
 use Rattle.std.proofs.lemmas.Nat.{shr-shr}
 use Rattle.md_bytes.specs.Bytes.{le}
 use Rattle.md_schema.specs.Tables.{bits_set, has_bit}
-use Rattle.md_schema.specs.Written.{bits, row_counts}
+use Rattle.md_schema.specs.Written.{bits}
 use Rattle.md_schema.proofs.CountLemmas.{bits_low}
 
 -- one more bit is counted
@@ -48,14 +47,6 @@ pub bits_le : (i n valid : ℕ) → i ≤ n → bits_set i valid ≤ bits_set n 
 bits_le i n valid le =
     let e : i + (n - i) ≡ n = omega arith in
     subst (λ (m : ℕ). bits_set i valid ≤ bits_set m valid) e (bits_up i (n - i) valid)
-
--- ---- bits and counts that are written
-
-pub bits_at : (rows : List ℕ) (i : ℕ) → i < length rows → bits (drop i rows) ≡ cond (ltb 0 (get_or rows i 0)) 1 0 + 2 * bits (drop (i + 1) rows)
-bits_at rows i lt = ap bits (drop_more rows i 0 lt)
-
-pub counts_at : (rows : List ℕ) (i : ℕ) → i < length rows → row_counts (drop i rows) ≡ cond (ltb 0 (get_or rows i 0)) (le 4 (get_or rows i 0)) [] ++ row_counts (drop (i + 1) rows)
-counts_at rows i lt = ap row_counts (drop_more rows i 0 lt)
 
 -- Valid has at most 45 bits
 pub valid_low : (rows : List ℕ) (n value : ℕ) → length rows ≤ 45 → value ≡ bits (drop n rows) → value < 2 ^ 45

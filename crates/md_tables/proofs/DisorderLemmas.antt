@@ -1,7 +1,7 @@
 -- The first list that is disordered, as a loop looks for it.
-use Rattle.std.proofs.Common.{◌≡◌, ℕ, suc, zero, ◌+◌, ◌<◌, ◌≤◌, List, [], ◌∷◌, length, get_or, drop, Option, Some, None, refl, sym, ap, ◌∙◌, arith}
+use Rattle.std.proofs.Common.{◌≡◌, ℕ, ◌+◌, ◌<◌, ◌≤◌, List, ◌∷◌, length, get_or, drop, Option, Some, None, refl, sym, ap, ◌∙◌}
 use Rattle.std.specs.Prelude.{option_map}
-use Rattle.std.proofs.lemmas.List.{drop_more}
+use Rattle.std.proofs.lemmas.List.{drop_all, drop_more}
 use Rattle.md_tables.specs.declared.lists.RowList.{RowList}
 use Rattle.md_tables.specs.Faults.{disorder, disordered_in, or_else}
 use Rattle.md_tables.specs.Numbers.{Rows}
@@ -22,12 +22,6 @@ disorder_on rows lists i list lt e h =
     ap (disorder rows) (drop_more lists i list lt) ∙ ap (λ (x : RowList). disorder rows (x ∷ drop (i + 1) lists)) (sym e) ∙ step rows list (drop (i + 1) lists)
     ∙ ap (λ (o : Option ℕ). or_else (option_map (λ (r : ℕ). (list, r)) o) (disorder rows (drop (i + 1) lists))) h
 
-no_more : (lists : List RowList) (i : ℕ) → length lists ≤ i → drop i lists ≡ []
-no_more [] zero h = refl
-no_more [] (suc i) h = refl
-no_more (x ∷ xs) zero h = absurd (omega arith)
-no_more (x ∷ xs) (suc i) h = no_more xs i (omega arith)
-
 pub disorder_none : (rows : Rows) (lists : List RowList) (i : ℕ) → length lists ≤ i → disorder rows (drop i lists) ≡ None
 unfolding disorder
-disorder_none rows lists i le = ap (disorder rows) (no_more lists i le)
+disorder_none rows lists i le = ap (disorder rows) (drop_all i lists le)

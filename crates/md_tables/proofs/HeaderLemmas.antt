@@ -8,16 +8,9 @@ use Rattle.md_schema.specs.Schema.{all_tables}
 use Rattle.md_schema.specs.Tables.{valid_of, sizes_of, rows_from, rows_end, table_size}
 use Rattle.md_tables.specs.Faults.{fault, has_unknown, header_fault}
 
-pub short_header : (bytes : List ℕ) → length bytes < 24 → header_fault bytes ≡ Some (fault kinds.ShortTable (length bytes))
-short_header bytes h = let t : ltb (length bytes) 24 ≡ true = lt-ltb _ _ h in
-    ap (λ (b : Bool). cond b (Some (fault kinds.ShortTable (length bytes))) (cond (has_unknown (valid_of bytes)) (Some (fault kinds.UnknownTable 8)) (cond (ltb (length bytes) (rows_end bytes)) (Some (fault kinds.ShortTable (length bytes))) None))) t
-
 long_header : (bytes : List ℕ) → 24 ≤ length bytes → header_fault bytes ≡ cond (has_unknown (valid_of bytes)) (Some (fault kinds.UnknownTable 8)) (cond (ltb (length bytes) (rows_end bytes)) (Some (fault kinds.ShortTable (length bytes))) None)
 long_header bytes h = let t : ltb (length bytes) 24 ≡ false = le-ltb _ _ h in
     ap (λ (b : Bool). cond b (Some (fault kinds.ShortTable (length bytes))) (cond (has_unknown (valid_of bytes)) (Some (fault kinds.UnknownTable 8)) (cond (ltb (length bytes) (rows_end bytes)) (Some (fault kinds.ShortTable (length bytes))) None))) t
-
-pub unknown_header : (bytes : List ℕ) → 24 ≤ length bytes → has_unknown (valid_of bytes) ≡ true → header_fault bytes ≡ Some (fault kinds.UnknownTable 8)
-unknown_header bytes h u = long_header bytes h ∙ ap (λ (b : Bool). cond b (Some (fault kinds.UnknownTable 8)) (cond (ltb (length bytes) (rows_end bytes)) (Some (fault kinds.ShortTable (length bytes))) None)) u
 
 known_header : (bytes : List ℕ) → 24 ≤ length bytes → has_unknown (valid_of bytes) ≡ false → header_fault bytes ≡ cond (ltb (length bytes) (rows_end bytes)) (Some (fault kinds.ShortTable (length bytes))) None
 known_header bytes h u = long_header bytes h ∙ ap (λ (b : Bool). cond b (Some (fault kinds.UnknownTable 8)) (cond (ltb (length bytes) (rows_end bytes)) (Some (fault kinds.ShortTable (length bytes))) None)) u

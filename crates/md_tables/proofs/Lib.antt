@@ -6,3 +6,4 @@ pub mod ReadLemmas
 pub mod DisorderLemmas
 pub mod HeaderLemmas
 pub mod WholeLemmas
+pub mod WritableLemmas

@@ -1,5 +1,5 @@
 -- Tables as lists of rows.
-use Rattle.std.proofs.Common.{◌≡◌, ℕ, zero, suc, ◌<◌, List, [], ◌∷◌, ◌++◌, length, get_or, set, cond, eqb, true, false, inl, inr, refl, sym, ap, ◌∙◌}
+use Rattle.std.proofs.Common.{◌≡◌, ℕ, suc, ◌<◌, List, [], ◌∷◌, ◌++◌, length, get_or, set, cond, eqb, true, false, inl, inr, refl, sym, ap, ◌∙◌}
 use Rattle.std.specs.Prelude.{Vec}
 use Rattle.std.specs.declared.alloc.Global.{Global}
 use Rattle.std.proofs.lemmas.Bool.{cases_eq, eq-eqb, ne_eqb}
@@ -14,19 +14,9 @@ pub length-lists : (tables : List (Vec (Vec ℕ Global) Global)) → length (lis
 length-lists [] = refl
 length-lists (table ∷ tables) = ap suc (length-lists tables)
 
-pub lists_push : (tables : List (Vec (Vec ℕ Global) Global)) (table : Vec (Vec ℕ Global) Global) → lists_in (tables ++ table ∷ []) ≡ lists_in tables ++ cells_in table.items ∷ []
-lists_push [] table = refl
-lists_push (t ∷ tables) table = ap (λ (x : List (List (List ℕ))). cells_in t.items ∷ x) (lists_push tables table)
-
 pub cells_push : (rows : List (Vec ℕ Global)) (row : Vec ℕ Global) → cells_in (rows ++ row ∷ []) ≡ cells_in rows ++ row.items ∷ []
 cells_push [] row = refl
 cells_push (r ∷ rows) row = ap (λ (x : List (List ℕ)). r.items ∷ x) (cells_push rows row)
-
-pub all_empty : (xs : List (List (List ℕ))) → ((k : ℕ) → get_or xs k [] ≡ []) → (k : ℕ) → get_or (xs ++ [] ∷ []) k [] ≡ []
-all_empty [] h zero = refl
-all_empty [] h (suc k) = refl
-all_empty (x ∷ xs) h zero = h 0
-all_empty (x ∷ xs) h (suc k) = all_empty xs (λ j. h (suc j)) k
 
 pub list_at : (tables : List (Vec (Vec ℕ Global) Global)) (i : ℕ) (t : Vec (Vec ℕ Global) Global) → i < length tables → t ≡ get_or tables i t → get_or (lists_in tables) i [] ≡ cells_in t.items
 list_at tables i t lt e = get_or-map (λ (x : Vec (Vec ℕ Global) Global). cells_in x.items) tables i t [] lt ∙ ap (λ (x : Vec (Vec ℕ Global) Global). cells_in x.items) (sym e)

@@ -1,6 +1,6 @@
 -- Rows that are read, one behind the other, are those at the offsets that the sums give.
-use Rattle.std.proofs.Common.{◌≡◌, ℕ, zero, suc, ◌+◌, ◌-◌, ◌*◌, ◌<◌, ◌≤◌, List, [], ◌∷◌, ◌++◌, length, get_or, take, drop, map, refl, sym, ap, subst, ◌∙◌, append_assoc, arith, add-zero}
-use Rattle.std.proofs.lemmas.List.{drop_more, length-map}
+use Rattle.std.proofs.Common.{◌≡◌, ℕ, zero, suc, ◌+◌, ◌-◌, ◌*◌, ◌<◌, ◌≤◌, List, [], ◌∷◌, ◌++◌, length, get_or, take, map, refl, sym, ap, subst, ◌∙◌, append_assoc, arith, add-zero}
+use Rattle.std.proofs.lemmas.List.{length-map}
 use Rattle.md_bytes.specs.Bytes.{number_at, total}
 use Rattle.md_schema.specs.declared.table.Table.{Table}
 use Rattle.md_schema.specs.declared.table.Table.TheVariants as tables
@@ -11,18 +11,7 @@ use Rattle.md_schema.specs.Widths.{count_of, width_of}
 use Rattle.md_schema.proofs.TablesLemmas.{place_is, place_low}
 use Rattle.md_tables.specs.Reading.{numbers_at, rows_at, tables_at}
 
--- ---- steps of loops
-
-pub numbers_on : {C : Type 0} (f : C → ℕ) (columns : List C) (d : C) (bytes front whole : List ℕ) (at i : ℕ) → i < length columns
-    → front ++ numbers_at bytes at (map f (drop i columns)) ≡ whole
-    → (front ++ number_at bytes at (f (get_or columns i d)) ∷ []) ++ numbers_at bytes (at + f (get_or columns i d)) (map f (drop (i + 1) columns)) ≡ whole
-numbers_on f columns d bytes front whole at i lt h =
-    let e : numbers_at bytes at (map f (drop i columns)) ≡ number_at bytes at (f (get_or columns i d)) ∷ numbers_at bytes (at + f (get_or columns i d)) (map f (drop (i + 1) columns)) =
-    rw (drop_more columns i d lt) refl in
-    append_assoc front (number_at bytes at (f (get_or columns i d)) ∷ []) (numbers_at bytes (at + f (get_or columns i d)) (map f (drop (i + 1) columns))) ∙ ap (λ (x : List ℕ). front ++ x) (sym e) ∙ h
-
-pub total_at : {C : Type 0} (f : C → ℕ) (columns : List C) (d : C) (i : ℕ) → i < length columns → total (map f (drop i columns)) ≡ f (get_or columns i d) + total (map f (drop (i + 1) columns))
-total_at {C} f columns d i lt = ap (λ (xs : List C). total (map f xs)) (drop_more columns i d lt)
+-- ---- one more row
 
 pub rows_on : (bytes ws : List ℕ) (front whole : List (List ℕ)) (count at i : ℕ) → i < count
     → front ++ rows_at bytes at ws (count - i) ≡ whole → (front ++ numbers_at bytes at ws ∷ []) ++ rows_at bytes (at + total ws) ws (count - (i + 1)) ≡ whole

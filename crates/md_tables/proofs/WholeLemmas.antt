@@ -1,12 +1,12 @@
 -- A whole stream: its header, what is written, and that it has no fault.
-use Rattle.std.proofs.Common.{◌≡◌, ℕ, zero, suc, ◌+◌, ◌*◌, ◌/◌, ◌%◌, ◌^◌, ◌<◌, ◌≤◌, Bool, true, false, cond, ltb, eqb, List, [], ◌∷◌, ◌++◌, length, get_or, take, drop, map, Option, Some, None, refl, sym, ap, subst, ◌∙◌, inl, inr, append_assoc, arith, length-append, zero-add, lit≤}
+use Rattle.std.proofs.Common.{◌≡◌, ℕ, zero, suc, ◌+◌, ◌*◌, ◌/◌, ◌%◌, ◌^◌, ◌<◌, ◌≤◌, Bool, true, false, ltb, eqb, List, [], ◌∷◌, ◌++◌, length, get_or, take, drop, map, Option, Some, None, refl, sym, ap, subst, ◌∙◌, inl, inr, append_assoc, arith, length-append, zero-add}
 use Rattle.std.specs.Prelude.{◌&&◌, not, is_some, option_map}
 use Rattle.std.specs.List.{flat_map, AllByRecursion}
 use Rattle.std.proofs.Math.Pow.{pow_mono}
 use Rattle.std.proofs.lemmas.Bool.{cases_lt, lt-ltb, eq-eqb, ne_eqb}
 use Rattle.std.proofs.lemmas.List.{append-nil, length-map, get_or-map}
 use Rattle.std.proofs.lemmas.Nat.{shr-shr, shr_below}
-use Rattle.md_bytes.specs.Bytes.{le, number, number_at}
+use Rattle.md_bytes.specs.Bytes.{le, number}
 use Rattle.md_bytes.specs.Stands.{Stands}
 use Rattle.md_bytes.proofs.NumberLemmas.{read_number}
 use Rattle.md_bytes.proofs.StandsLemmas.{stands_before}
@@ -15,8 +15,8 @@ use Rattle.md_schema.specs.declared.faults.ImageKind.TheVariants as kinds
 use Rattle.md_schema.specs.declared.table.Table.{Table}
 use Rattle.md_schema.specs.declared.table.Table.TheVariants as tables
 use Rattle.md_schema.specs.declared.sizes.Sizes.{Sizes}
-use Rattle.md_schema.specs.Schema.{all_tables, number_of, columns_of}
-use Rattle.md_schema.specs.Tables.{has_bit, heap_bits, bits_set, upto, valid_of, count_at, sizes_of, rows_from, rows_end, widths_of, raw}
+use Rattle.md_schema.specs.Schema.{all_tables, number_of}
+use Rattle.md_schema.specs.Tables.{has_bit, heap_bits, upto, valid_of, count_at, sizes_of, rows_from, rows_end, widths_of, raw}
 use Rattle.md_schema.specs.Widths.{count_of}
 use Rattle.md_schema.specs.Written.{bits, flag, row_counts, table_head, rows_bytes, table_bytes, RowFits, Fit}
 use Rattle.md_schema.proofs.CountLemmas.{upto_is, bits_low, length-table_head}
@@ -37,63 +37,12 @@ eight (a ∷ b ∷ []) h = absurd (omega arith)
 eight (a ∷ b ∷ c ∷ []) h = absurd (omega arith)
 eight (a ∷ b ∷ c ∷ d ∷ rest) h = omega arith
 
--- the count of the next number
-pub count_set : (bytes : List ℕ) (valid n at : ℕ) → valid ≡ valid_of bytes → at ≡ 24 + 4 * bits_set n valid → has_bit valid n ≡ true → number_at bytes at 4 ≡ count_at bytes n
-count_set bytes valid n at v a h =
-    let e : count_at bytes n ≡ number_at bytes (24 + 4 * bits_set n valid) 4 =
-    ap (λ (x : ℕ). cond (has_bit x n) (number_at bytes (24 + 4 * bits_set n x) 4) 0) (sym v) ∙ ap (λ (b : Bool). cond b (number_at bytes (24 + 4 * bits_set n valid) 4) 0) h in
-    ap (λ (x : ℕ). number_at bytes x 4) a ∙ sym e
-
-pub count_unset : (bytes : List ℕ) (valid n : ℕ) → valid ≡ valid_of bytes → has_bit valid n ≡ false → 0 ≡ count_at bytes n
-count_unset bytes valid n v h =
-    sym (ap (λ (x : ℕ). cond (has_bit x n) (number_at bytes (24 + 4 * bits_set n x) 4) 0) (sym v) ∙ ap (λ (b : Bool). cond b (number_at bytes (24 + 4 * bits_set n valid) 4) 0) h)
-
 pub counts_all : (bytes rows : List ℕ) → length rows ≡ 45 → ((k : ℕ) → k < 45 → get_or rows k 0 ≡ count_at bytes k) → rows ≡ map (count_at bytes) (upto 0 45)
 counts_all bytes rows many h =
     let all : map (count_at bytes) (upto 0 (length rows)) ≡ rows = upto_is 0 0 rows (count_at bytes) (λ i lt. ap (count_at bytes) (zero-add i) ∙ sym (h i (omega arith))) in
     sym (subst (λ (k : ℕ). map (count_at bytes) (upto 0 k) ≡ rows) many all)
 
--- ---- widths
-
-pub columns_few : (t : Table) → length (columns_of t) ≤ 9
-columns_few tables.Module = lit≤ tt
-columns_few tables.TypeRef = lit≤ tt
-columns_few tables.TypeDef = lit≤ tt
-columns_few tables.Field = lit≤ tt
-columns_few tables.MethodDef = lit≤ tt
-columns_few tables.Param = lit≤ tt
-columns_few tables.InterfaceImpl = lit≤ tt
-columns_few tables.MemberRef = lit≤ tt
-columns_few tables.Constant = lit≤ tt
-columns_few tables.CustomAttribute = lit≤ tt
-columns_few tables.FieldMarshal = lit≤ tt
-columns_few tables.DeclSecurity = lit≤ tt
-columns_few tables.ClassLayout = lit≤ tt
-columns_few tables.FieldLayout = lit≤ tt
-columns_few tables.StandAloneSig = lit≤ tt
-columns_few tables.EventMap = lit≤ tt
-columns_few tables.Event = lit≤ tt
-columns_few tables.PropertyMap = lit≤ tt
-columns_few tables.Property = lit≤ tt
-columns_few tables.MethodSemantics = lit≤ tt
-columns_few tables.MethodImpl = lit≤ tt
-columns_few tables.ModuleRef = lit≤ tt
-columns_few tables.TypeSpec = lit≤ tt
-columns_few tables.ImplMap = lit≤ tt
-columns_few tables.FieldRva = lit≤ tt
-columns_few tables.Assembly = lit≤ tt
-columns_few tables.AssemblyProcessor = lit≤ tt
-columns_few tables.AssemblyOs = lit≤ tt
-columns_few tables.AssemblyRef = lit≤ tt
-columns_few tables.AssemblyRefProcessor = lit≤ tt
-columns_few tables.AssemblyRefOs = lit≤ tt
-columns_few tables.File = lit≤ tt
-columns_few tables.ExportedType = lit≤ tt
-columns_few tables.ManifestResource = lit≤ tt
-columns_few tables.NestedClass = lit≤ tt
-columns_few tables.GenericParam = lit≤ tt
-columns_few tables.MethodSpec = lit≤ tt
-columns_few tables.GenericParamConstraint = lit≤ tt
+-- ---- how many rows are read
 
 pub length-upto : (n k : ℕ) → length (upto n k) ≡ k
 unfolding upto

@@ -5,3 +5,4 @@ pub mod Faults
 pub mod Reading
 pub mod Stops
 pub mod Head
+pub mod Writable

@@ -10,12 +10,12 @@ mod put;
 mod read;
 mod rows;
 mod set;
-#[cfg(test)]
-mod tests;
 mod view;
+mod writable;
 mod write;
 
 pub use read::read_tables;
 pub use set::TableSet;
 pub use view::TableView;
+pub use writable::is_writable;
 pub use write::write_tables;

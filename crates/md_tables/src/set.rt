@@ -24,6 +24,7 @@ impl TableSet {
     ghost use Rattle.std.specs.Prelude.{ℕ, [], ◌++◌, ◌∷◌, ◌==◌, IfOk, OnOk, OnErr, if◌then◌else◌};
     ghost use Rattle.md_schema.specs.declared.table.Table.{Table};
     ghost use Rattle.md_schema.specs.Schema.{columns_of, place_of};
+    ghost use Rattle.md_tables.specs.Lists.{cells_in};
     ghost use Rattle.md_tables.specs.Rows.{rows_in};
 
     /// A set without rows.
@@ -64,6 +65,13 @@ impl TableSet {
         let cells = Vec::from_slice(self.alloc, &row.cells)?;
         self.tables[place(table)].push(cells)?;
         Ok(())
+    }
+
+    /// The rows of a table.
+    pub fn rows(&self, table: Table) -> &[Vec<u32>]
+        ensures { cells_in result.now ≡ rows_in self.now table }
+    {
+        self.tables[place(table)].as_slice()
     }
 
     /// How many rows a table has.

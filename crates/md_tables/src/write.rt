@@ -52,7 +52,7 @@ fn stream(alloc: Global, set: &TableSet) -> Result<Vec<u8>, AllocError>
 }
 
 /// The heap bits of a set, and how many rows each table has.
-fn sizes(set: &TableSet) -> Sizes
+pub fn sizes(set: &TableSet) -> Sizes
     requires { (table : Table) → length (rows_in set.now table) < 2 ^ 24 }
     ensures { result ≡ sizes_in set.now }
 {
