@@ -1,0 +1,228 @@
+//! The cells of the tables, each found by its offset and followed to what it names (ECMA-335 II.24.2.6).
+
+ghost use Rattle.std.specs.Prelude.{◌≡◌, ◌<◌, ◌≤◌};
+ghost use Rattle.md_schema.specs.Tables as tables_as;
+
+use crate::bytes::{number_at, part};
+use crate::heaps::{blob_at, text_at};
+use crate::streams::{Range, Streams};
+use crate::unread::fault;
+use md_schema::{Column, ImageFault, ImageKind, Sizes, TABLES, Table, columns, decode, width};
+
+/// The tables' stream of an image, and the heaps that cells lead to.
+#[derive(Clone, Copy, Debug)]
+pub struct Tables<'a> {
+    /// Where the stream begins in the image.
+    at: u64,
+    stream: &'a [u8],
+    texts: &'a [u8],
+    blobs: &'a [u8],
+    sizes: Sizes,
+    /// Where the rows begin in the stream.
+    rows: u64,
+}
+
+/// A row that a cell leads to, by its number from 1. Number 0 leads to none.
+#[derive(Clone, Copy, Debug, PartialEq, Eq)]
+pub struct Target {
+    pub table: Table,
+    pub row: u32,
+}
+
+/// A bit of a number, from the lowest on.
+pub fn has_bit(n: u32, bit: u32) -> bool
+    requires { bit < 32 }
+    ensures { result ≡ tables_as.has_bit n bit }
+{
+    (n >> bit) % 2 == 1
+}
+
+/// Valid, the bits of the tables that have rows.
+#[derive(Clone, Copy, Debug)]
+struct Valid {
+    low: u32,
+    high: u32,
+}
+
+impl Valid {
+    fn has(&self, n: u32) -> bool
+        requires { n < 64 }
+    {
+        if n < 32 {
+            has_bit(self.low, n)
+        } else {
+            has_bit(self.high, n - 32)
+        }
+    }
+
+    /// How many bits below a number are set.
+    fn below(&self, n: u32) -> u64
+        requires { n ≤ 64 }
+    {
+        let mut count = 0u64;
+        for bit in 0..n {
+            if self.has(bit) {
+                count = count.saturating_add(1);
+            }
+        }
+        count
+    }
+
+    fn is_known(&self) -> bool {
+        for bit in 0..64u32 {
+            if self.has(bit) && !TABLES.iter().any(|table| table.number() as u32 == bit) {
+                return false;
+            }
+        }
+        true
+    }
+}
+
+/// The row counts, behind the header of the stream: one for each bit of Valid.
+fn counts(stream: &[u8], valid: Valid) -> [u32; 45] {
+    let mut rows = [0u32; 45];
+    for n in 0..45u32 {
+        if valid.has(n) {
+            let at = valid.below(n).saturating_mul(4).saturating_add(24);
+            rows[n as usize] = number_at(stream, at, 4);
+        }
+    }
+    rows
+}
+
+/// How many bytes the first of these columns have.
+fn widths(sizes: &Sizes, columns: &[Column]) -> u64 {
+    let mut sum = 0u64;
+    for column in columns {
+        sum = sum.saturating_add(width(sizes, *column) as u64);
+    }
+    sum
+}
+
+/// How many bytes the rows of a table have.
+fn size_of_table(sizes: &Sizes, table: Table) -> u64 {
+    widths(sizes, columns(table)).saturating_mul(sizes.count(table) as u64)
+}
+
+/// How many bytes the rows of the tables before a number have.
+fn size_below(sizes: &Sizes, number: u8) -> u64 {
+    let mut sum = 0u64;
+    for table in TABLES.iter() {
+        if table.number() < number {
+            sum = sum.saturating_add(size_of_table(sizes, *table));
+        }
+    }
+    sum
+}
+
+/// The bytes of a stream.
+fn bytes_in(image: &[u8], range: Range) -> &[u8] {
+    part(image, range.offset, range.size)
+}
+
+impl<'a> Tables<'a> {
+    /// The tables of an image with these streams. A table that is none, and rows past the stream, are faults.
+    pub fn new(image: &'a [u8], streams: &Streams) -> Result<Tables<'a>, ImageFault> {
+        let at = streams.tables.offset;
+        let stream = bytes_in(image, streams.tables);
+        let valid = Valid {
+            low: number_at(stream, 8, 4),
+            high: number_at(stream, 12, 4),
+        };
+        if !valid.is_known() {
+            return Err(fault(ImageKind::UnknownTable, at.saturating_add(8)));
+        }
+        let heaps = number_at(stream, 6, 1);
+        let sizes = Sizes {
+            long_texts: has_bit(heaps, 0),
+            long_guids: has_bit(heaps, 1),
+            long_blobs: has_bit(heaps, 2),
+            rows: counts(stream, valid),
+        };
+        let rows = valid.below(64).saturating_mul(4).saturating_add(24);
+        if rows.saturating_add(size_below(&sizes, u8::MAX)) > stream.len() as u64 {
+            return Err(fault(ImageKind::ShortTable, at));
+        }
+        Ok(Tables {
+            at,
+            stream,
+            texts: bytes_in(image, streams.texts),
+            blobs: bytes_in(image, streams.blobs),
+            sizes,
+            rows,
+        })
+    }
+
+    /// How many rows a table has.
+    pub fn count(&self, table: Table) -> u32 {
+        self.sizes.count(table)
+    }
+
+    /// Where a cell stands in the stream. Rows count from 1, columns from 0.
+    fn place(&self, table: Table, row: u32, column: usize) -> u64 {
+        let before = size_below(&self.sizes, table.number());
+        let above = widths(&self.sizes, columns(table)).saturating_mul(
+            (row as u64).saturating_sub(1),
+        );
+        let left = match columns(table).get(..column) {
+            Some(columns) => widths(&self.sizes, columns),
+            None => 0,
+        };
+        self.rows
+            .saturating_add(before)
+            .saturating_add(above)
+            .saturating_add(left)
+    }
+
+    /// Where a cell stands in the image.
+    pub fn offset(&self, table: Table, row: u32, column: usize) -> u64 {
+        self.at.saturating_add(self.place(table, row, column))
+    }
+
+    /// The number in a cell.
+    pub fn number(&self, table: Table, row: u32, column: usize) -> u32 {
+        match columns(table).get(column) {
+            Some(kind) => {
+                let size = width(&self.sizes, *kind) as u64;
+                number_at(self.stream, self.place(table, row, column), size)
+            }
+            None => 0,
+        }
+    }
+
+    /// The text that a cell names.
+    pub fn text(&self, table: Table, row: u32, column: usize) -> Result<&'a str, ImageFault> {
+        match text_at(self.texts, self.number(table, row, column)) {
+            Ok(text) => Ok(text),
+            Err(kind) => Err(fault(kind, self.offset(table, row, column))),
+        }
+    }
+
+    /// The blob that a cell names.
+    pub fn blob(&self, table: Table, row: u32, column: usize) -> Result<&'a [u8], ImageFault> {
+        match blob_at(self.blobs, self.number(table, row, column)) {
+            Ok(blob) => Ok(blob),
+            Err(kind) => Err(fault(kind, self.offset(table, row, column))),
+        }
+    }
+
+    /// The row that a coded index names; none where the column is another.
+    pub fn target(&self, table: Table, row: u32, column: usize) -> Result<Target, ImageFault> {
+        let number = self.number(table, row, column);
+        let Some(Column::Coded(coded)) = columns(table).get(column).copied() else {
+            return Err(fault(ImageKind::BadTag, self.offset(table, row, column)));
+        };
+        match decode(coded, number) {
+            Ok((table, row)) => Ok(Target { table, row }),
+            Err(_) => Err(fault(ImageKind::BadTag, self.offset(table, row, column))),
+        }
+    }
+
+    /// Whether a cell leads to this row.
+    pub fn leads(&self, table: Table, row: u32, column: usize, target: Target) -> bool {
+        match self.target(table, row, column) {
+            Ok(found) => found == target,
+            Err(_) => false,
+        }
+    }
+}
