@@ -1,0 +1,9 @@
+pub mod Parts
+pub mod Imports
+pub mod Found
+pub mod Phases
+pub mod Events
+pub mod Reads
+pub mod Turns
+pub mod Stops
+pub mod Lines

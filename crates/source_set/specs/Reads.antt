@@ -1,0 +1,18 @@
+-- What the sources of an answer are.
+use Rattle.std.specs.Prelude.{◌≡◌, ℕ, List, Some, slice_get, string_bytes, Option, IfSome}
+use Rattle.wr_outside.specs.Files.{Files}
+use Rattle.midl_parse.specs.SourceViews.{source_view}
+use Rattle.source_set.specs.declared.source.Source.{Source}
+use Rattle.source_set.specs.Found.{Read}
+
+-- a source without where it lies in memory
+abbrev pub read_of : Source → Read
+read_of s = record { name = string_bytes s.name; bytes = s.bytes.items; tree = source_view s.file }
+
+-- each file has its place as number
+pub record AreNumbered (sources : List Source) : Type 0 where
+  pub each : (k : ℕ) (s : Source) → slice_get sources k ≡ Some s → s.file.number ≡ k
+
+-- these are the files of the store, as far as it tells them
+abbrev pub MayHold : Option Files → Files → Type 0
+MayHold held files = IfSome held (λ told. told ≡ files)
