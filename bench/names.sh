@@ -1,0 +1,102 @@
+#!/bin/sh
+# Times `resolve` of midl_names alone, on one core, over files that are cut and parsed before: interfaces in 20 files, each
+# in a namespace of its own, whose members use interfaces of the next file, and twice as many. It is no part of the merge gate.
+#
+#   bench/names.sh [N]      N interfaces, which are 20000 where none is given, and 2N
+#
+# At 20000 it is to take less than 1 s, and at 2N less than 2.3 times as long as at N.
+set -eu
+count=${1:-20000}
+. "$(dirname "$0")/programs.sh"
+
+program names_bench 'midl_lex midl_names midl_parse wr_base' <<'PROGRAM'
+//! Resolves files, and prints the least time of five runs and what came of it.
+#![tactic(auto)]
+
+use midl_lex::tokens;
+use midl_names::resolve;
+use midl_parse::{File, parse};
+use std::alloc::Global;
+use std::env;
+use std::fs;
+use std::test::Fail;
+use std::time::Instant;
+use wr_base::Stop;
+
+/// The file of these bytes, where they are one.
+fn parsed(alloc: Global, number: u32, bytes: &[u8]) -> Option<File> {
+    if bytes.len() > 4194304 {
+        return None;
+    }
+    let Ok(found) = tokens(alloc, number, bytes) else {
+        return None;
+    };
+    match parse(alloc, number, &found) {
+        Ok(file) => Some(file),
+        Err(_) => None,
+    }
+}
+
+/// How many items there are, or where the first fault stands.
+fn resolved(alloc: Global, files: &[File]) -> (u64, bool) {
+    match resolve(alloc, files) {
+        Ok(placed) => (placed.len() as u64, true),
+        Err(Stop::Refused(refusal)) => (refusal.place.offset as u64, false),
+        Err(Stop::Memory) => (0, false),
+    }
+}
+
+fn main(rt: HostRuntime) -> Result<(), Fail> {
+    let mut files = Vec::new(rt.alloc());
+    let mut number = 0u32;
+    for word in env::args(&rt)?.skip(1) {
+        let bytes = fs::read(&rt, word.as_str())?;
+        match parsed(rt.alloc(), number, &bytes) {
+            Some(file) => files.push(file)?,
+            None => println!(rt; "no file")?,
+        }
+        number = number.wrapping_add(1);
+    }
+    let mut least = u128::MAX;
+    let mut answer = (0, false);
+    for _ in 0..5 {
+        let start = Instant::now(&rt)?;
+        answer = resolved(rt.alloc(), &files);
+        let took = start.elapsed(&rt)?.as_micros();
+        if took < least {
+            least = took;
+        }
+    }
+    let (count, is_whole) = answer;
+    if is_whole {
+        println!(rt; "{least} {count} items")?;
+    } else {
+        println!(rt; "{least} refused at {count}")?;
+    }
+    Ok(())
+}
+PROGRAM
+
+# sources FOLDER N: N interfaces in 20 files
+sources() {
+    mkdir "$work/$1"
+    for k in 0 1 2 3 4 5 6 7 8 9 10 11 12 13 14 15 16 17 18 19; do
+        awk -v n="$2" -v k="$k" 'BEGIN {
+            next_ = (k + 1) % 20
+            printf "namespace Gen.Part%d {\n", k
+            for (i = 0; i < n / 20; i++)
+                printf "interface I%d { void A(Gen.Part%d.I%d a, Part%d.I%d b); I%d B(); Windows.Foundation.EventHandler<Part%d.I%d> C(Int32 c); I%d D { get; }; }\n", i, next_, i, next_, i, i, next_, i, i
+            print "}"
+        }' > "$work/$1/$k.idl"
+    done
+}
+sources once "$count"
+sources twice $((2 * count))
+
+built names_bench "$work/once/0.idl"
+once=$("$work/crates/names_bench/out/names_bench" "$work"/once/*.idl)
+twice=$("$work/crates/names_bench/out/names_bench" "$work"/twice/*.idl)
+awk -v n="$count" -v once="$once" -v twice="$twice" 'BEGIN {
+    split(once, a, " "); split(twice, b, " ")
+    printf "%d interfaces: %.0f ms (%s %s), %d: %.0f ms (%s %s), ratio %.2f\n", n, a[1] / 1000, a[2], a[3], 2 * n, b[1] / 1000, b[2], b[3], b[1] / a[1]
+}'

@@ -1,0 +1,12 @@
+pub mod AbiNames
+pub mod CaseTurns
+pub mod Firsts
+pub mod FullNames
+pub mod Lookups
+pub mod Nested
+pub mod Resolutions
+pub mod UsesResolved
+pub mod Spread
+pub mod Turns
+pub mod UseLaws
+pub mod Mapped

@@ -1,0 +1,9 @@
+use Rattle.std.proofs.Common.{◌≡◌, map, take}
+use Rattle.std.specs.BTreeMap.{get_by_text}
+use Rattle.midl_parse.specs.SourceViews.{type_view}
+use Rattle.midl_names.specs.Resolved.{resolved}
+use Rattle.midl_names.specs.Views.{parts_of}
+use Rattle.midl_names.proofs.resolved.resolved_list.Given as goal
+
+abbrev pub invariant-loop-node : goal.invariant-loop-node
+invariant-loop-node l = l.uses ≡ map (resolved (get_by_text l.fn.scope.index.now.sorts) (parts_of l.fn.scope.item.now.space.items)) (map type_view (take l.node-index l.nodes))

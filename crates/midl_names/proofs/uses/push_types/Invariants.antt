@@ -1,0 +1,9 @@
+use Rattle.std.proofs.Common.{◌≡◌, ◌++◌, map, take}
+use Rattle.std.specs.List.{flat_map}
+use Rattle.midl_parse.specs.SourceViews.{type_view}
+use Rattle.midl_names.specs.Uses.{uses_in}
+use Rattle.midl_names.specs.Views.{types_of}
+use Rattle.midl_names.proofs.uses.push_types.Given as goal
+
+abbrev pub invariant-loop-node : goal.invariant-loop-node
+invariant-loop-node l = types_of l.into.items ≡ types_of l.fn.into.items ++ flat_map uses_in (map type_view (take l.node-index l.types))

@@ -1,0 +1,15 @@
+pub mod Answers
+pub mod Attributes
+pub mod Constructors
+pub mod Counts
+pub mod Declares
+pub mod Duplicates
+pub mod Faults
+pub mod Items
+pub mod Lookup
+pub mod Members
+pub mod Named
+pub mod Names
+pub mod Resolved
+pub mod Uses
+pub mod Views

@@ -1,0 +1,34 @@
+-- What is broken in the phase of names.
+use Rattle.std.specs.Prelude.{ℕ, List, Option, drop}
+use Rattle.std.specs.List.{filter}
+use Rattle.ranked.specs.Entries.{Entry}
+use Rattle.ranked.specs.First.{Or, Among}
+use Rattle.ranked.specs.Repeats.{Repeated}
+use Rattle.midl_names.specs.declared.sort.Sort.{Sort}
+use Rattle.midl_names.specs.Items.{Item, Source, items_of}
+use Rattle.midl_names.specs.Lookup.{declared_sort}
+use Rattle.midl_names.specs.Faults.{Gives}
+use Rattle.midl_names.specs.Attributes.{IsBadAttribute, called, attribute_entry, unfit}
+use Rattle.midl_names.specs.Constructors.{IsMisnamed, IsDoubled, class_members, is_plain, misnamed, doubled}
+use Rattle.midl_names.specs.Duplicates.{IsDuplicate, lower_name, duplicate_entry, found_again}
+use Rattle.midl_names.specs.Uses.{IsUnknown, IsMiscounted, uses_of, use_fault}
+
+-- broken by one of the six rules
+abbrev pub Broken : List Item → Entry → Type 0
+Broken items = Or (IsBadAttribute items) (Or (IsMisnamed items) (Or (IsDoubled items) (Or (IsDuplicate items) (Or (IsUnknown (declared_sort items) items) (IsMiscounted (declared_sort items) items)))))
+
+abbrev pub Names : List Source → Entry → Type 0
+Names sources = Broken (items_of sources)
+
+-- the same item by item: what is broken at one, apart from names that repeat
+abbrev pub ItemFaults : (List ℕ → Option Sort) → Item → Entry → Type 0
+ItemFaults known i =
+    Or (Repeated called (attribute_entry i) i.attributes)
+    (Or (Among i.attributes (λ a. Gives (unfit i a)))
+    (Or (Among (class_members i.tree) (λ m. Gives (misnamed i m)))
+    (Or (Among (drop 1 (filter is_plain (class_members i.tree))) (λ m. Gives (doubled i m)))
+    (Or (Gives (found_again i))
+    (Among (uses_of i.tree) (λ u. Gives (use_fault known i u)))))))
+
+abbrev pub ByItem : (List ℕ → Option Sort) → List Item → Entry → Type 0
+ByItem known items = Or (Repeated lower_name duplicate_entry items) (Among items (ItemFaults known))

@@ -1,0 +1,88 @@
+//! Items whose full name is taken, but for ASCII case.
+
+ghost use Rattle.std.specs.Prelude.{◌≡◌, IfOk, Some, None, map, string_bytes, if◌then◌else◌};
+ghost use Rattle.ranked.specs.First.{IsFirst, Among};
+ghost use Rattle.ranked.specs.Repeats.{Repeated};
+ghost use Rattle.midl_names.specs.Duplicates.{lower, lower_name, is_found, duplicate_entry, found_again};
+ghost use Rattle.midl_names.specs.Faults.{Gives};
+ghost use Rattle.midl_names.specs.Views.{item_of};
+
+use crate::paths::own_name;
+use crate::refuse::refuse;
+use crate::scoped::Scoped;
+use ranked::earlier;
+use std::alloc::Global;
+use std::collections::BTreeSet;
+use wr_base::{Code, Memory, Refusal};
+
+fn lowered(alloc: Global, text: &str) -> Result<String, Memory>
+    ensures { IfOk result (λ r. string_bytes r ≡ lower text.now) }
+{
+    let mut lowered = String::from_str(alloc, text)?;
+    lowered.make_ascii_lowercase();
+    Ok(lowered)
+}
+
+fn lower_name(alloc: Global, item: &Scoped) -> Result<String, Memory>
+    ensures { IfOk result (λ r. string_bytes r ≡ lower_name (item_of item.now)) }
+{
+    lowered(alloc, item.full.as_str())
+}
+
+#[tactic(auto, unfolding(crate::specs::Duplicates::is_found))]
+fn is_found(lowered: &str) -> bool
+    ensures { result ≡ is_found lowered.now }
+{
+    matches!(
+        lowered,
+        "windows.foundation.eventregistrationtoken"
+            | "windows.foundation.datetime"
+            | "windows.foundation.timespan"
+            | "windows.foundation.iclosable"
+            | "windows.foundation.istringable"
+            | "windows.foundation.ireference"
+            | "windows.foundation.eventhandler"
+            | "windows.foundation.typedeventhandler"
+    )
+}
+
+fn refuse_if(alloc: Global, item: &Scoped, broken: bool) -> Result<Option<Refusal>, Memory>
+    ensures { IfOk result (λ r. r ≡ (if broken then Some (duplicate_entry (item_of item.now)) else None)) }
+{
+    if !broken {
+        return Ok(None);
+    }
+    let refusal = refuse(
+        alloc,
+        item,
+        own_name(item.tree).offset(),
+        Code::DuplicateName,
+        item.full.as_str(),
+    )?;
+    Ok(Some(refusal))
+}
+
+/// Whether a found type has the item's full name.
+pub(crate) fn found_again(alloc: Global, item: &Scoped) -> Result<Option<Refusal>, Memory>
+    ensures { IfOk result (λ r. r ≡ found_again (item_of item.now)) }
+{
+    let name = lower_name(alloc, item)?;
+    let broken = is_found(name.as_str());
+    refuse_if(alloc, item, broken)
+}
+
+/// The first item whose full name an earlier one has.
+#[tactic(auto, using(ranked::proofs::FirstLaws::none_below, ranked::proofs::RepeatLaws::none_seen))]
+pub(crate) fn repeated_names(alloc: Global, items: &[Scoped]) -> Result<Option<Refusal>, Memory>
+    ensures { IfOk result (IsFirst (Repeated lower_name duplicate_entry (map item_of items.now))) }
+{
+    let mut seen = BTreeSet::new(alloc);
+    let mut first = None;
+    for item in items {
+        let name = lower_name(alloc, item)?;
+        let added = seen.insert(name)?;
+        let broken = refuse_if(alloc, item, !added)?;
+        first = earlier(first, broken);
+    }
+    Ok(first)
+}

@@ -1,0 +1,60 @@
+//! The first entry that is broken in the phase of names.
+
+ghost use Rattle.std.specs.Prelude.{◌≡◌, ℕ, List, IfOk, map};
+ghost use Rattle.std.specs.BTreeMap.{get_by_text};
+ghost use Rattle.ranked.specs.First.{IsFirst, Among};
+ghost use Rattle.midl_names.specs.Lookup.{declared_sort};
+ghost use Rattle.midl_names.specs.Names.{Broken, ItemFaults};
+ghost use Rattle.midl_names.specs.Views.{item_of};
+
+use crate::attributes::{repeated, unfits};
+use crate::constructors::{doubled_in, misnamed_in};
+use crate::duplicates::{found_again, repeated_names};
+use crate::lookup::Index;
+use crate::scoped::Scoped;
+use crate::use_faults::use_faults;
+use ranked::earlier;
+use std::alloc::Global;
+use wr_base::{Memory, Refusal};
+
+fn item_faults(alloc: Global, index: &Index, item: &Scoped) -> Result<Option<Refusal>, Memory>
+    ensures { IfOk result (IsFirst (ItemFaults (get_by_text index.now.sorts) (item_of item.now))) }
+{
+    let again = repeated(alloc, item)?;
+    let unfit = unfits(alloc, item)?;
+    let misnamed = misnamed_in(alloc, item)?;
+    let doubled = doubled_in(alloc, item)?;
+    let found = found_again(alloc, item)?;
+    let uses = use_faults(alloc, index, item)?;
+    let last = earlier(found, uses);
+    let made = earlier(misnamed, earlier(doubled, last));
+    Ok(earlier(again, earlier(unfit, made)))
+}
+
+fn all_item_faults(
+    alloc: Global,
+    index: &Index,
+    items: &[Scoped],
+) -> Result<Option<Refusal>, Memory>
+    ensures { IfOk result (IsFirst (Among (map item_of items.now) (ItemFaults (get_by_text index.now.sorts)))) }
+{
+    let mut first = None;
+    for item in items {
+        first = earlier(first, item_faults(alloc, index, item)?);
+    }
+    Ok(first)
+}
+
+/// The first entry that is broken, where the index is the one of the items.
+pub(crate) fn faults(
+    alloc: Global,
+    index: &Index,
+    items: &[Scoped],
+) -> Result<Option<Refusal>, Memory>
+    requires { (name : List ℕ) → get_by_text index.now.sorts name ≡ declared_sort (map item_of items.now) name }
+    ensures { IfOk result (IsFirst (Broken (map item_of items.now))) }
+{
+    let repeated = repeated_names(alloc, items)?;
+    let others = all_item_faults(alloc, index, items)?;
+    Ok(earlier(repeated, others))
+}

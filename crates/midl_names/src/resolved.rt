@@ -1,0 +1,144 @@
+//! Uses of types, resolved.
+
+ghost use Rattle.std.specs.Prelude.{◌≡◌, IfOk, map, option_map, string_bytes};
+ghost use Rattle.std.specs.BTreeMap.{get_by_text};
+ghost use Rattle.midl_parse.specs.SourceViews.{type_view, param_view};
+ghost use Rattle.midl_names.specs.Lookup.{look_up};
+ghost use Rattle.midl_names.specs.Named.{IsName};
+ghost use Rattle.midl_names.specs.Resolved.{base_of, use_of, resolved, param_of, signature_of};
+ghost use Rattle.midl_names.specs.Uses.{dotted};
+ghost use Rattle.midl_names.specs.Views.{parts_of};
+
+use crate::hit::Hit;
+use crate::lookup::{Index, look_up};
+use crate::paths::dotted;
+use crate::scope::Scope;
+use crate::sort::Sort;
+use midl_parse::{Ident, ParamNode, TypeNode};
+use sqlite_items::Items;
+use std::alloc::Global;
+use wr_base::{Base, Listed, Memory, Name, Param, Params, Signature, TypeUse, Uses};
+
+#[tactic(auto, unfolding(crate::specs::Resolved::base_of))]
+fn base_of(word: &str) -> Base
+    ensures { result ≡ base_of word.now }
+{
+    match word {
+        "Boolean" => Base::Boolean,
+        "Char" => Base::Char,
+        "Char16" => Base::Char,
+        "UInt8" => Base::U8,
+        "Int16" => Base::I16,
+        "UInt16" => Base::U16,
+        "Int32" => Base::I32,
+        "UInt32" => Base::U32,
+        "Int64" => Base::I64,
+        "UInt64" => Base::U64,
+        "String" => Base::Text,
+        "Guid" => Base::Guid,
+        _ => Base::Object,
+    }
+}
+
+fn use_of(found: Option<Hit>, arguments: Uses) -> TypeUse
+    ensures { result ≡ use_of found arguments }
+{
+    match found {
+        None => TypeUse::Plain(Base::Object),
+        Some(hit) => {
+            let Hit { name, sort } = hit;
+            match sort {
+                Sort::Value => TypeUse::Value(name),
+                Sort::Reference => TypeUse::Reference(name),
+                Sort::Template(_) => TypeUse::Inst(name, arguments),
+            }
+        }
+    }
+}
+
+fn found_of(scope: &Scope, path: &[Ident]) -> Result<Option<Hit>, Memory>
+    ensures { IfOk result (λ r. r ≡ look_up (get_by_text scope.now.index.now.sorts) (parts_of scope.now.item.now.space.items) (dotted path.now)) }
+{
+    let text = dotted(scope.alloc, path)?;
+    look_up(scope.alloc, scope.index, &scope.item.space, text.as_str())
+}
+
+/// The use that a node stands for in a namespace.
+pub(crate) fn resolved(scope: &Scope, node: &TypeNode) -> Result<TypeUse, Memory>
+    ensures { IfOk result (λ u. u ≡ resolved (get_by_text scope.now.index.now.sorts) (parts_of scope.now.item.now.space.items) (type_view node.now)) }
+{
+    match node {
+        TypeNode::Base(word) => Ok(TypeUse::Plain(base_of(word.as_str()))),
+        TypeNode::Named(path, arguments) => {
+            let mut uses = Items::new(scope.alloc);
+            for argument in arguments {
+                uses.push(resolved(scope, argument)?)?;
+            }
+            let found = found_of(scope, path)?;
+            Ok(use_of(found, uses))
+        }
+    }
+}
+
+/// The uses that nodes stand for.
+pub(crate) fn resolved_list(scope: &Scope, nodes: &[TypeNode]) -> Result<Uses, Memory>
+    ensures { IfOk result (λ us. us ≡ map (resolved (get_by_text scope.now.index.now.sorts) (parts_of scope.now.item.now.space.items)) (map type_view nodes.now)) }
+{
+    let mut uses = Items::new(scope.alloc);
+    for node in nodes {
+        uses.push(resolved(scope, node)?)?;
+    }
+    Ok(uses)
+}
+
+/// A copy of a name.
+pub(crate) fn name_of(alloc: Global, name: &Ident) -> Result<Name, Memory>
+    ensures value { IfOk result (λ r. r ≡ name.now.text) }
+    ensures named { IfOk result IsName }
+{
+    Ok(Name::new(String::from_str(alloc, name.as_str())?))
+}
+
+fn param_of(scope: &Scope, node: &ParamNode) -> Result<Param, Memory>
+    ensures { IfOk result (λ p. p ≡ param_of (get_by_text scope.now.index.now.sorts) (parts_of scope.now.item.now.space.items) (param_view node.now)) }
+{
+    let name = name_of(scope.alloc, &node.name)?;
+    let ty = resolved(scope, &node.kind)?;
+    Ok(Param {
+        name,
+        out: node.out,
+        ty,
+    })
+}
+
+fn params_of(scope: &Scope, nodes: &[ParamNode]) -> Result<Params, Memory>
+    ensures { IfOk result (λ ps. ps ≡ map (param_of (get_by_text scope.now.index.now.sorts) (parts_of scope.now.item.now.space.items)) (map param_view nodes.now)) }
+{
+    let mut params = Vec::new(scope.alloc);
+    for node in nodes {
+        params.push(param_of(scope, node)?)?;
+    }
+    Ok(Listed::from_vec(params))
+}
+
+fn result_of(scope: &Scope, outcome: &Option<TypeNode>) -> Result<Option<TypeUse>, Memory>
+    ensures { IfOk result (λ r. r ≡ option_map (resolved (get_by_text scope.now.index.now.sorts) (parts_of scope.now.item.now.space.items)) (option_map type_view outcome.now)) }
+{
+    match outcome {
+        None => Ok(None),
+        Some(node) => Ok(Some(resolved(scope, node)?)),
+    }
+}
+
+/// The signature of a method, a delegate or a constructor.
+pub(crate) fn signature_of(
+    scope: &Scope,
+    outcome: &Option<TypeNode>,
+    params: &[ParamNode],
+) -> Result<Signature, Memory>
+    ensures { IfOk result (λ s. s ≡ signature_of (get_by_text scope.now.index.now.sorts) (parts_of scope.now.item.now.space.items) (option_map type_view outcome.now) (map param_view params.now)) }
+{
+    let params = params_of(scope, params)?;
+    let result = result_of(scope, outcome)?;
+    Ok(Signature { params, result })
+}
