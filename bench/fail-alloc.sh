@@ -1,6 +1,6 @@
 #!/bin/sh
-# Lets each allocation of the built program fail in turn, over a source, a missing file and a file that is refused: each run
-# must end with 6 and nothing on the standard error, or with the right status, text and image.
+# Lets each allocation of the built program fail in turn, over a source, a missing file, an import, a set that isn't compiled yet, and sources that
+# are refused by names, by parsing and by lexing: each run must end with 6 and nothing on the standard error, or with the right status, text and image.
 # Needs cc and glibc, and the program, which `./winrt` builds.
 top=$(CDPATH='' cd -- "$(dirname -- "$0")/.." && pwd) || exit 1
 program=$top/crates/winrt/out/winrt
@@ -25,11 +25,14 @@ void *malloc(size_t size) { return fails() ? 0 : __libc_malloc(size); }
 void *realloc(void *old, size_t size) { return fails() ? 0 : __libc_realloc(old, size); }
 END
 cc -O1 -shared -fPIC -o fail.so fail.c || exit 1
-cp "$top/examples/shop.idl" shop.idl || exit 1
+cp "$top/examples/shop.idl" "$top/examples/all.idl" . || exit 1
+cp "$top/examples/gone.idl" names.idl || exit 1
 printf 'namespace Shop { enum Size { Small, Small }; }\n' >twice.idl
+printf 'namespace Shop { enum }\n' >syntax.idl
+printf 'namespace Shop { ? }\n' >lexing.idl
 
 failed=0
-for source in shop.idl gone.idl twice.idl; do
+for source in shop.idl missing.idl all.idl twice.idl names.idl syntax.idl lexing.idl; do
     rm -f image want past
     "$program" midl -o image "$source" 2>want_text
     want=$?

@@ -1,21 +1,18 @@
 -- What lexing says of tokens, and of the tokens as the grammar sees them.
-use Rattle.std.proofs.Common.{◌≡◌, ℕ, zero, suc, ◌+◌, ◌<◌, ◌≤◌, ◌^◌, Bool, true, false, cond, ◌&&◌, ◌||◌, nat_le, ◌==◌, List, [], ◌∷◌, ◌++◌, length, None, IsTrue, refl, sym, subst, ◌∙◌, arith, lit<, map, inl, inr}
-use Rattle.std.specs.List.{All, list_all}
+use Rattle.std.proofs.Common.{◌≡◌, ℕ, zero, suc, ◌+◌, ◌<◌, ◌≤◌, ◌^◌, Bool, true, false, cond, ◌&&◌, ◌||◌, nat_le, ◌==◌, List, [], ◌∷◌, ◌++◌, length, None, IsTrue, refl, sym, subst, ◌∙◌, arith, lit<, inl, inr}
+use Rattle.std.specs.List.{list_all}
 use Rattle.std.specs.Str.{IsAscii}
-use Rattle.std.proofs.lemmas.List.Elements.{All-nil, All-cons, All-map, All-weaker}
 use Rattle.grammar.specs.Productions.{has}
 use Rattle.wr_base.specs.Paths.{is_identifier, is_start, is_rest}
 use Rattle.midl_lex.specs.declared.token.TokenKind.{TokenKind}
 use Rattle.midl_lex.specs.declared.token.TokenKind.TheVariants as tokens
-use Rattle.midl_lex.specs.declared.token.LexemeKind.{LexemeKind}
 use Rattle.midl_lex.specs.declared.token.LexemeKind.TheVariants as lexemes
 use Rattle.midl_lex.specs.Bytes.{is_letter, is_word, is_digit, is_hex, is_x, is_plain, all_pass}
 use Rattle.midl_lex.specs.Guids.{guid_from, guid_test}
 use Rattle.midl_lex.specs.Scan.{is_mark}
 use Rattle.midl_lex.specs.Numbers.{value_of}
-use Rattle.midl_lex.specs.Lexemes.{Lexeme, IsLexeme}
+use Rattle.midl_lex.specs.Lexemes.{IsLexeme}
 use Rattle.midl_lex.specs.Pieces.{Piece, excess_of, Fits}
-use Rattle.midl_lex.specs.Tokens.{Lexes, Cuts, AllFit, excess, token_if, tokens_of}
 use Rattle.midl_parse.specs.declared.kind.Kind.{Kind}
 use Rattle.midl_parse.specs.declared.kind.Kind.TheVariants as kinds
 use Rattle.midl_parse.specs.declared.symbol.Terminal.{Terminal}
@@ -23,22 +20,7 @@ use Rattle.midl_parse.specs.Kinds.{number_of, names}
 use Rattle.midl_parse.specs.Words.{kind_of_name, kind_of_word, kind_of_byte, kind_of_mark, kind_by, text_by, terminal_of}
 use Rattle.midl_parse.specs.Terminals.{IsLexed}
 
--- ---- the tokens of a file are spelled as their kinds say
-
-fits_if : (offset : ℕ) (kind : LexemeKind) (text : List ℕ) (rest : List Piece) → IsLexeme kind text → excess kind text ≡ None → All Fits rest → All Fits (token_if offset kind text ++ rest)
-fits_if offset lexemes.White text rest is fits h = h
-fits_if offset lexemes.LineComment text rest is fits h = h
-fits_if offset lexemes.BlockComment text rest is fits h = h
-fits_if offset (lexemes.Token kind) text rest is fits h = All-cons Fits (record { offset = offset; kind = kind; text = text }) rest (record { is = is; fits = fits }) h
-
-tokens_fit : (bytes : List ℕ) (from to : ℕ) (ls : List Lexeme) → Cuts bytes from ls to → AllFit ls → All Fits (tokens_of ls)
-tokens_fit bytes from to [] cut fit = All-nil Fits
-tokens_fit bytes from to (l ∷ ls) cut fit = fits_if l.offset l.kind l.text (tokens_of ls) cut.1.is fit.0 (tokens_fit bytes (from + length l.text) to ls cut.2 fit.1)
-
-pub pieces_fit : (bytes : List ℕ) (pieces : List Piece) → Lexes bytes pieces → All Fits pieces
-pieces_fit bytes pieces h = let P : List Piece → Type 0 = All Fits in subst P (sym h.are) (tokens_fit bytes _ _ h.lexemes h.cut h.fit)
-
--- ---- they are ASCII
+-- ---- a token that fits is ASCII
 
 abbrev Small : List ℕ → Type 0
 Small [] = Unit {0}
@@ -208,6 +190,3 @@ lexed_as p offset kind text h at is spelled =
     let this : Terminal = record { offset = offset; kind = kind; text = text } in
     let same : this ≡ terminal_of p = cc in
     subst IsLexed (sym same) (piece_lexed p h)
-
-pub terminals_lexed : (pieces : List Piece) → All Fits pieces → All IsLexed (map terminal_of pieces)
-terminals_lexed pieces h = All-map IsLexed terminal_of pieces (All-weaker Fits (λ p. IsLexed (terminal_of p)) piece_lexed pieces h)

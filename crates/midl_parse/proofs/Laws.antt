@@ -16,8 +16,8 @@ use Rattle.midl_parse.specs.Kinds.{number_of, names, own_names}
 use Rattle.midl_parse.specs.Symbols.{kind_of}
 use Rattle.midl_parse.specs.declared.symbol.Terminal.{Terminal}
 use Rattle.midl_parse.specs.Trees.{or_none}
-use Rattle.midl_parse.specs.Grammar.{Is, IsThere, IsName, IsOwnName, Behind, IsDotted, IsValue, IsCase, IsCases, IsEnum, IsEnumFile}
-use Rattle.midl_parse.specs.Reading.{is_at, name_at, own_name_at, is_there_at, behind_at, dotted_at, value_at, case_at, cases_at, enum_at, enum_file_at}
+use Rattle.midl_parse.specs.Grammar.{Is, IsThere, IsName, IsOwnName, Behind, IsDotted, IsValue, IsCase, IsCases, IsEnum}
+use Rattle.midl_parse.specs.Reading.{is_at, name_at, own_name_at, is_there_at, behind_at, dotted_at, value_at, case_at, cases_at, enum_at}
 
 -- a token of the kind
 unfoldable pub sample : Kind → Terminal
@@ -104,11 +104,6 @@ pub enum_reads : Reads kind_of IsEnum enum_at (2 ∷ []) false (33 ∷ [])
 unfolding enum_at
 enum_reads = andthen (is_reads Enum) (λ word. andthen own_name_reads (λ name. andthen (is_reads OpenBrace) (λ begin. andthen (perhaps cases_reads) (λ cases.
     andthen (is_reads CloseBrace) (λ close. andthen (is_there_reads Semicolon) (λ end. done_reads kind_of (record { name = name; cases = or_none cases })) refl) refl) refl) refl) refl) refl
-
-pub enum_file_reads : Reads kind_of IsEnumFile enum_file_at (1 ∷ []) false (33 ∷ [])
-unfolding enum_file_at
-enum_file_reads = andthen (is_reads Namespace) (λ word. andthen dotted_reads (λ path. andthen (is_reads OpenBrace) (λ begin. andthen enum_reads (λ tree.
-    andthen (is_reads CloseBrace) (λ close. andthen (is_there_reads Semicolon) (λ end. done_reads kind_of (record { space = path; declared = tree })) refl) refl) refl) refl) refl) refl
 
 -- what a loop repeats
 pub dot_name_item : Item (Behind Dot IsName) (behind_at Dot name_at) (35 ∷ []) []

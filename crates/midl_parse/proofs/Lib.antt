@@ -2,11 +2,6 @@ pub mod Laws
 pub mod Turns
 pub mod CaseTurns
 pub mod FromLexing
-pub mod FromTree
-pub mod Numbering
-pub mod Paths
-pub mod Distinct
-pub mod Wholes
 pub mod SourceMembers
 pub mod SourceLaws
 pub mod SourceDepths

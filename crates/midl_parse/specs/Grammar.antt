@@ -2,13 +2,13 @@
 use Rattle.std.specs.Prelude.{List, [], ◌∷◌, Bool, is_some}
 use Rattle.grammar.specs.Productions.{One, Done, ◌>>=◌, Optional, Many, Trailing}
 use Rattle.midl_parse.specs.declared.kind.Kind.{Kind}
-use Rattle.midl_parse.specs.declared.kind.Kind.TheVariants.{Namespace, Enum, Number, OpenBrace, CloseBrace, Comma, Semicolon, Dot, Equals, Minus}
+use Rattle.midl_parse.specs.declared.kind.Kind.TheVariants.{Enum, Number, OpenBrace, CloseBrace, Comma, Semicolon, Dot, Equals, Minus}
 use Rattle.midl_parse.specs.Kinds.{number_of, names, own_names}
 use Rattle.midl_parse.specs.Symbols.{kind_of}
 use Rattle.midl_parse.specs.declared.symbol.Terminal.{Terminal}
 use Rattle.midl_parse.specs.declared.tree.Value.{Value}
 use Rattle.midl_parse.specs.declared.tree.CaseNode.{CaseNode}
-use Rattle.midl_parse.specs.Trees.{EnumTree, FileTree, or_none}
+use Rattle.midl_parse.specs.Trees.{EnumTree, or_none}
 
 -- one token of the kind
 abbrev pub Is : Kind → List Terminal → Terminal → Type 0
@@ -73,14 +73,3 @@ IsEnum = do
   close ← Is CloseBrace
   end ← IsThere Semicolon
   Done (record { name = name; cases = or_none cases })
-
--- "namespace" Dotted "{" Enum "}" [ ";" ]
-abbrev pub IsEnumFile : List Terminal → FileTree → Type 0
-IsEnumFile = do
-  word ← Is Namespace
-  path ← IsDotted
-  begin ← Is OpenBrace
-  tree ← IsEnum
-  close ← Is CloseBrace
-  end ← IsThere Semicolon
-  Done (record { space = path; declared = tree })

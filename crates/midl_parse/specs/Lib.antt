@@ -6,11 +6,6 @@ pub mod Trees
 pub mod Grammar
 pub mod Reading
 pub mod Views
-pub mod Lexed
-pub mod Values
-pub mod Form
-pub mod Plain
-pub mod Spelled
 pub mod SourceTrees
 pub mod SourceGrammar
 pub mod SourceReading

@@ -1,8 +1,8 @@
 -- Reading from the left, with one token of look-ahead.
 use Rattle.std.specs.Prelude.{◌≡◌, ℕ, List, [], ◌∷◌, Bool, is_some, Result, Ok, Err}
-use Rattle.grammar.specs.Readers.{Read, one_at, done_at, ◌>>=◌, optional_at, many_at, trailing_at, all_at}
+use Rattle.grammar.specs.Readers.{Read, one_at, done_at, ◌>>=◌, optional_at, many_at, trailing_at}
 use Rattle.midl_parse.specs.declared.kind.Kind.{Kind}
-use Rattle.midl_parse.specs.declared.kind.Kind.TheVariants.{Namespace, Enum, Number, OpenBrace, CloseBrace, Comma, Semicolon, Dot, Equals, Minus}
+use Rattle.midl_parse.specs.declared.kind.Kind.TheVariants.{Enum, Number, OpenBrace, CloseBrace, Comma, Semicolon, Dot, Equals, Minus}
 use Rattle.midl_parse.specs.declared.stop.Code.{Code}
 use Rattle.midl_parse.specs.declared.stop.Code.TheVariants.{Syntax}
 use Rattle.midl_parse.specs.declared.stop.Stop.{Stop}
@@ -12,7 +12,7 @@ use Rattle.midl_parse.specs.Symbols.{kind_of}
 use Rattle.midl_parse.specs.declared.symbol.Terminal.{Terminal}
 use Rattle.midl_parse.specs.declared.tree.Value.{Value}
 use Rattle.midl_parse.specs.declared.tree.CaseNode.{CaseNode}
-use Rattle.midl_parse.specs.Trees.{EnumTree, FileTree, or_none}
+use Rattle.midl_parse.specs.Trees.{EnumTree, or_none}
 
 -- What a function returned, seen by view, is what reading gives, unless memory ran out.
 abbrev pub Fails : {Y : Type 0} → Stop → Result Y (Code × ℕ) → Type 0
@@ -82,16 +82,3 @@ enum_at = do
   close ← is_at CloseBrace
   end ← is_there_at Semicolon
   done_at (record { name = name; cases = or_none cases })
-
-unfoldable pub enum_file_at : List Terminal → Read Code Terminal FileTree
-enum_file_at = do
-  word ← is_at Namespace
-  path ← dotted_at
-  begin ← is_at OpenBrace
-  tree ← enum_at
-  close ← is_at CloseBrace
-  end ← is_there_at Semicolon
-  done_at (record { space = path; declared = tree })
-
-unfoldable pub whole_at : List Terminal → Result FileTree (Code × ℕ)
-whole_at = all_at enum_file_at Syntax

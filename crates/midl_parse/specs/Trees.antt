@@ -7,11 +7,6 @@ pub record EnumTree : Type 0 where
   pub name : Terminal
   pub cases : List CaseNode
 
--- a file that holds one namespace with one enum
-pub record FileTree : Type 0 where
-  pub space : List Terminal
-  pub declared : EnumTree
-
 -- a list that may be left out
 abbrev pub or_none : {A : Type 0} → Option (List A) → List A
 or_none None = []

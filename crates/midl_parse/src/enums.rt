@@ -1,17 +1,15 @@
-//! Enums, and files that hold one.
+//! Enums.
 
 ghost use Rattle.std.specs.Prelude.{◌≡◌};
 ghost use Rattle.grammar.specs.Readers.{after_front};
-ghost use Rattle.midl_parse.specs.Reading.{Gives, value_at, case_at, more_cases_at, cases_at, enum_at, enum_file_at, whole_at};
-ghost use Rattle.midl_parse.specs.Views.{enum_view, file_view};
+ghost use Rattle.midl_parse.specs.Reading.{Gives, value_at, case_at, more_cases_at, cases_at, enum_at};
+ghost use Rattle.midl_parse.specs.Views.{enum_view};
 
 use crate::kind::Kind;
-use crate::reading::{
-    begins, begins_name, dotted_of, take, take_if, take_name, take_number, take_own_name,
-};
-use crate::stop::{Code, Stop};
+use crate::reading::{begins, begins_name, take, take_if, take_name, take_number, take_own_name};
+use crate::stop::Stop;
 use crate::symbol::Terminal;
-use crate::tree::{CaseNode, EnumFile, EnumNode, Value};
+use crate::tree::{CaseNode, EnumNode, Value};
 use std::alloc::Global;
 
 #[tactic(auto, unfolding(crate::specs::Reading::value_at))]
@@ -88,29 +86,4 @@ pub(crate) fn enum_of(alloc: Global, tokens: &[Terminal]) -> Result<(EnumNode, &
     let (_, rest) = take_if(rest, Kind::Semicolon);
     let cases = Vec::new(alloc);
     Ok((EnumNode { name, cases }, rest))
-}
-
-#[tactic(auto, unfolding(crate::specs::Reading::enum_file_at))]
-fn enum_file_of(alloc: Global, tokens: &[Terminal]) -> Result<(EnumFile, &[Terminal]), Stop>
-    ensures { Gives (λ x. (file_view x.0, x.1.now)) result (enum_file_at tokens.now) }
-{
-    let (_, rest) = take(tokens, Kind::Namespace)?;
-    let (space, rest) = dotted_of(alloc, rest)?;
-    let (_, rest) = take(rest, Kind::OpenBrace)?;
-    let (declared, rest) = enum_of(alloc, rest)?;
-    let (_, rest) = take(rest, Kind::CloseBrace)?;
-    let (_, rest) = take_if(rest, Kind::Semicolon);
-    Ok((EnumFile { space, declared }, rest))
-}
-
-/// All tokens of a file as one namespace with one enum.
-#[tactic(auto, unfolding(crate::specs::Reading::whole_at))]
-pub(crate) fn whole_of(alloc: Global, tokens: &[Terminal]) -> Result<EnumFile, Stop>
-    ensures { Gives file_view result (whole_at tokens.now) }
-{
-    let (file, rest) = enum_file_of(alloc, tokens)?;
-    match rest {
-        [] => Ok(file),
-        [_, ..] => Err(Stop::Fault(Code::Syntax, rest.len())),
-    }
 }

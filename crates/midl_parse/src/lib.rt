@@ -1,15 +1,12 @@
 //! MIDL text: the grammar's productions over tokens, and the trees that tokens have.
 //!
-//! `parse` reads a file's tokens: it answers their tree exactly where they have one, and else refuses with the first token at which no file goes on. `enums_of` answers
-//! the set of the one enum of a file exactly where the file is in the form of one namespace with one enum.
+//! `parse` reads a file's tokens: it answers their tree exactly where they have one, and else refuses with the first token at which no file goes on.
 #![tactic(auto)]
 
 mod attributes;
 mod classes;
-mod declared;
 mod enums;
 mod files;
-mod form;
 mod ident;
 mod items;
 mod kind;
@@ -27,11 +24,9 @@ mod symbol;
 mod tree;
 mod types;
 mod unique;
-mod values;
 mod words;
 
 pub use files::parse;
-pub use form::enums_of;
 pub use ident::Ident;
 pub use kind::Kind;
 pub use nodes::{
@@ -41,4 +36,4 @@ pub use nodes::{
 pub use numeral::Numeral;
 pub use symbol::Terminal;
 pub use tree::{CaseNode, EnumNode, Value};
-pub use unique::{one_declaration, one_tree, tree_or_fault};
+pub use unique::{one_tree, tree_or_fault};

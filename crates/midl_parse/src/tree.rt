@@ -24,10 +24,3 @@ pub struct EnumNode {
     pub name: Ident,
     pub cases: Vec<CaseNode>,
 }
-
-/// A file that holds one namespace with one enum.
-#[derive(Debug, Drop)]
-pub struct EnumFile {
-    pub space: Vec<Ident>,
-    pub declared: EnumNode,
-}

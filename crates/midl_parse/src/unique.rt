@@ -1,9 +1,6 @@
 //! What holds of the definitions alone.
 
 ghost use Rattle.std.specs.Prelude.{◌≡◌, List, Some, None, map};
-ghost use Rattle.wr_base.specs.declared.declaration.Declaration.{Declaration};
-ghost use Rattle.midl_parse.specs.Form.{InForm};
-ghost use Rattle.midl_parse.specs.Plain.{IsPlain};
 ghost use Rattle.ranked.specs.Entries.{Entry};
 ghost use Rattle.ranked.specs.First.{IsFirst};
 ghost use Rattle.midl_lex.specs.Pieces.{Piece};
@@ -11,12 +8,6 @@ ghost use Rattle.midl_parse.specs.Words.{terminal_of};
 ghost use Rattle.midl_parse.specs.SourceTrees.{SourceTree};
 ghost use Rattle.midl_parse.specs.SourceGrammar.{IsSource};
 ghost use Rattle.midl_parse.specs.Entries.{Parsing};
-
-/// A file states at most one enum in the form, and what it states keeps to the limits of an enum.
-pub fn one_declaration(_bytes: &[u8])
-    ensures one { (a b : Declaration) → InForm _bytes.now a → InForm _bytes.now b → a ≡ b }
-    ensures plain { (d : Declaration) → InForm _bytes.now d → IsPlain d }
-{}
 
 /// Tokens have at most one tree.
 pub fn one_tree()

@@ -7,5 +7,3 @@ mod cases;
 mod parsing;
 #[cfg(test)]
 mod show;
-#[cfg(test)]
-mod tests;

@@ -1,5 +1,5 @@
 -- The ways in which a command ends, each as the record of its answer.
-use Rattle.std.proofs.Common.{◌≡◌, ◌⊎◌, ℕ, ◌≤◌, true, false, List, [], ◌++◌, take, Option, None, Some, refl, sym, ap, subst, ◌∙◌, inl, inr, append-nil, arith}
+use Rattle.std.proofs.Common.{◌≡◌, ◌⊎◌, ℕ, ◌≤◌, true, false, List, [], take, Option, None, Some, refl, sym, ap, subst, ◌∙◌, inl, inr, append-nil, arith}
 use Rattle.wr_outside.specs.Files.{Files, with_file, with_put, WritesSome}
 use Rattle.wr_tools.specs.Says.{Says}
 use Rattle.wr_tools.specs.Outside.{Outside, CountsRise}
@@ -62,13 +62,13 @@ module _ (command : Command) (before after : Outside) where
       subst (Answers command before after) (sym e) (no_memory (inr (record { line = line; owed = owed; n = part.0; is = part.1 })) out stopped counts)
 
   -- a refusal that is owed, with its line on err
-  refused : (status : ℕ) (name text : List ℕ) → 1 ≤ status → status ≤ 3
+  refused : (status : ℕ) (line : List ℕ) → 1 ≤ status → status ≤ 3
       → (status ≡ 2 → command.matched ≡ false) → (command.matched ≡ false → status ≡ 2)
-      → Owes command before.held (refusal status name text) → after.held ≡ before.held → after.out ≡ before.out → CountsRise before after
-      → after.err ≡ with_put before.err (name ++ text) → Answers command before after status
-  refused status name text low high unmatched matched owed held out counts err = record {
+      → Owes command before.held (refusal status line) → after.held ≡ before.held → after.out ≡ before.out → CountsRise before after
+      → after.err ≡ with_put before.err line → Answers command before after status
+  refused status line low high unmatched matched owed held out counts err = record {
     reply = λ ok. record {
-      reply = refusal status name text;
+      reply = refusal status line;
       owed = owed;
       shows = record { status_is = refl; held = held; out = out ∙ with_put-nil before.out; err = err };
     };
@@ -86,13 +86,13 @@ module _ (command : Command) (before after : Outside) where
   }
 
   -- the same, however the sink did
-  pub refuses : (status answer : ℕ) (name text : List ℕ) → 1 ≤ status → status ≤ 3
+  pub refuses : (status answer : ℕ) (line : List ℕ) → 1 ≤ status → status ≤ 3
       → (status ≡ 2 → command.matched ≡ false) → (command.matched ≡ false → status ≡ 2)
-      → Owes command before.held (refusal status name text) → after.held ≡ before.held → after.out ≡ before.out → CountsRise before after
-      → Says before.err after.err before.err_faults after.err_faults status (name ++ text) answer → Answers command before after answer
-  refuses status answer name text low high unmatched matched owed held out counts says =
-      after_line status answer (name ++ text) (refused status name text low high unmatched matched owed held out counts)
-      (inl (record { reply = refusal status name text; owed = owed; not_done = low; is = refl })) out (inl held) counts says
+      → Owes command before.held (refusal status line) → after.held ≡ before.held → after.out ≡ before.out → CountsRise before after
+      → Says before.err after.err before.err_faults after.err_faults status line answer → Answers command before after answer
+  refuses status answer line low high unmatched matched owed held out counts says =
+      after_line status answer line (refused status line low high unmatched matched owed held out counts)
+      (inl (record { reply = refusal status line; owed = owed; not_done = low; is = refl })) out (inl held) counts says
 
   read_failed : (line : List ℕ) → command.matched ≡ true → ReadFaultLine command before after line → after.held ≡ before.held → after.out ≡ before.out
       → CountsRise before after → after.err ≡ with_put before.err line → Answers command before after 4

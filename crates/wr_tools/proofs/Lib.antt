@@ -1,4 +1,9 @@
-pub mod FitLemmas
+mod FitLemmas
 pub mod SayLemmas
 pub mod EndLemmas
-pub mod MidlLemmas
+mod MadeLemmas
+mod OwedLemmas
+mod WordLemmas
+mod WordsOwed
+mod Distinct
+pub mod BareLemmas

@@ -3,7 +3,11 @@ pub mod Reply
 pub mod Command
 pub mod Lines
 pub mod Answers
-pub mod Compile
-pub mod Words
+pub mod SmallEnum
+pub mod Bare
+pub mod Sets
 pub mod Midl
+pub mod Words
+pub mod Made
+pub mod Outcomes
 pub mod Says

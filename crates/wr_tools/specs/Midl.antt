@@ -1,44 +1,88 @@
--- What `midl -o OUT FILE` replies, and what words that don't match do.
-use Rattle.std.specs.Prelude.{◌≡◌, ◌⊎◌, ℕ, true, false, None, Some, List, [], ◌∷◌, length, nat_lt, codes, MatchOption, MatchBool}
+-- What `midl -o OUT FILE..` replies, and what words that don't match do.
+use Rattle.std.specs.Prelude.{◌≡◌, ◌⊎◌, ℕ, true, false, Some, List, [], ◌∷◌, ◌++◌, codes}
 use Rattle.std.specs.FinMap as map
+use Rattle.ranked.specs.Entries.{Entry}
+use Rattle.ranked.specs.First.{IsFirst, Clear}
+use Rattle.wr_base.specs.declared.declaration.Declaration.{Declaration}
 use Rattle.wr_outside.specs.Files.{Files}
+use Rattle.midl_names.specs.Names.{Names}
+use Rattle.source_set.specs.Events.{Event, too_many, missing, too_long, refused, Awaits, FirstEvent, NoEvent}
+use Rattle.source_set.specs.Found.{Read}
+use Rattle.source_set.specs.Lines.{IsRefusalLine}
 use Rattle.wr_tools.specs.Reply.{Reply, refusal, done}
 use Rattle.wr_tools.specs.Command.{Command}
-use Rattle.wr_tools.specs.Compile.{Compiles}
+use Rattle.wr_tools.specs.Sets.{sources_of, text_at, IsSmall, Image}
 
 abbrev pub unmatched : List ℕ
 unmatched = codes "winrt: the words do not match\n"
 
-abbrev pub missing : List ℕ
-missing = codes ": Missing\n"
+-- the line of a file's event; a refused file has the line of its refusal
+abbrev pub EventLine : Files → List ℕ → Event → List ℕ → Type 0
+EventLine files name too_many line = line ≡ name ++ codes ": TooMany\n"
+EventLine files name missing line = line ≡ name ++ codes ": Missing\n"
+EventLine files name too_long line = line ≡ name ++ codes ": TooLong\n"
+EventLine files name (refused e) line = (bytes : List ℕ) × (map.get files name ≡ Some bytes) × IsRefusalLine name bytes e line
 
-abbrev pub too_long : List ℕ
-too_long = codes ": TooLong\n"
+-- content is refused by 1, and a file by 3
+abbrev pub status_of : Event → ℕ
+status_of too_many = 3
+status_of missing = 3
+status_of too_long = 3
+status_of (refused e) = 1
 
-abbrev pub not_yet : List ℕ
-not_yet = codes ": NotYet\n"
+-- a file of the set is refused, the first in its order
+pub record FileRefused (words : List (List ℕ)) (files : Files) (reply : Reply) : Type 0 where
+  pub name : List ℕ
+  pub event : Event
+  pub first : FirstEvent words files name event
+  pub line : List ℕ
+  pub said : EventLine files name event line
+  pub is : reply ≡ refusal (status_of event) line
 
--- how many bytes a source may have
-abbrev pub source_limit : ℕ
-source_limit = 4194304
+-- each file has a tree, and the first fault of the names phase is refused
+pub record NamesRefused (words : List (List ℕ)) (files : Files) (reply : Reply) : Type 0 where
+  pub reads : List Read
+  pub read : NoEvent words files reads
+  pub fault : Entry
+  pub first : IsFirst (Names (sources_of reads)) (Some fault)
+  pub line : List ℕ
+  pub said : IsRefusalLine (text_at reads fault.file).0 (text_at reads fault.file).1 fault line
+  pub is : reply ≡ refusal 1 line
 
--- a source is refused where it has no image, and else its image is written
-abbrev pub SourceReplies : List ℕ → List ℕ → List ℕ → Reply → Type 0
-SourceReplies out file source reply =
-    (Compiles source None × (reply ≡ refusal 1 file not_yet)) ⊎ ((image : List ℕ) × Compiles source (Some image) × (reply ≡ done out image))
+-- the first of the words, which there is
+abbrev pub first_word : List (List ℕ) → List ℕ
+first_word [] = []
+first_word (word ∷ words) = word
 
--- a file that isn't held is missing, one above the limit is too long, and any other is a source
-abbrev pub MidlReplies : List ℕ → List ℕ → Files → Reply → Type 0
-MidlReplies out file files reply =
-    MatchOption (map.get files file) (reply ≡ refusal 3 file missing)
-    (λ source. MatchBool (nat_lt source_limit (length source)) (reply ≡ refusal 3 file too_long) (SourceReplies out file source reply))
+-- each name is resolved, and the set is none that an image is written for so far
+pub record NotYet (words : List (List ℕ)) (files : Files) (reply : Reply) : Type 0 where
+  pub reads : List Read
+  pub read : NoEvent words files reads
+  pub resolved : Clear (Names (sources_of reads))
+  pub none : (declaration : Declaration) → ¬ (IsSmall reads declaration)
+  pub is : reply ≡ refusal 1 (first_word words ++ codes ": NotYet\n")
 
--- `midl -o OUT FILE` reads FILE, writes OUT and prints nothing.
-abbrev pub midl_command : List ℕ → List ℕ → Command
-midl_command out file = record {
+-- the set is one enum, and its image is written
+pub record Compiled (out : List ℕ) (words : List (List ℕ)) (files : Files) (reply : Reply) : Type 0 where
+  pub reads : List Read
+  pub read : NoEvent words files reads
+  pub resolved : Clear (Names (sources_of reads))
+  pub declaration : Declaration
+  pub small : IsSmall reads declaration
+  pub bytes : List ℕ
+  pub image : Image declaration bytes
+  pub is : reply ≡ done out bytes
+
+-- the order of refusals: file by file, then names, then what is no image yet
+abbrev pub MidlReplies : List ℕ → List (List ℕ) → Files → Reply → Type 0
+MidlReplies out words files reply = FileRefused words files reply ⊎ NamesRefused words files reply ⊎ NotYet words files reply ⊎ Compiled out words files reply
+
+-- `midl -o OUT FILE..` reads the files and what they import, writes OUT and prints nothing.
+abbrev pub midl_command : List ℕ → List (List ℕ) → Command
+midl_command out words = record {
   matched = true;
-  replies = MidlReplies out file;
-  awaits = λ files name. name ≡ file;
+  replies = MidlReplies out words;
+  awaits = λ files name. Awaits words files name;
   writes = out ∷ [];
   prints = false;
 }
@@ -47,7 +91,7 @@ midl_command out file = record {
 abbrev pub unmatched_command : Command
 unmatched_command = record {
   matched = false;
-  replies = λ files reply. reply ≡ refusal 2 [] unmatched;
+  replies = λ files reply. reply ≡ refusal 2 unmatched;
   awaits = λ files name. ⊥;
   writes = [];
   prints = false;

@@ -10,9 +10,9 @@ pub record Reply : Type 0 where
   pub err : List ℕ
   pub written : List (List ℕ × List ℕ)
 
--- A refusal puts one line on err, a name and a text, and writes nothing.
-abbrev pub refusal : ℕ → List ℕ → List ℕ → Reply
-refusal status name text = record { status = status; out = []; err = name ++ text; written = [] }
+-- A refusal puts one line on err, and writes nothing.
+abbrev pub refusal : ℕ → List ℕ → Reply
+refusal status line = record { status = status; out = []; err = line; written = [] }
 
 -- one file is written, and nothing is said
 abbrev pub done : List ℕ → List ℕ → Reply

@@ -2,11 +2,13 @@
 //! when it comes is one record of the call's contract, `Answers`.
 #![tactic(auto)]
 
-mod compile;
+mod bare;
+mod made;
 mod midl;
+mod outcome;
 mod say;
-#[cfg(test)]
-mod tests;
+mod small;
+mod texts;
 mod tool;
 mod words;
 

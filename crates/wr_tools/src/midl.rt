@@ -1,21 +1,19 @@
-// The command `midl -o OUT FILE`.
+// The command `midl -o OUT FILE..`.
+ghost use Rattle.std.specs.Prelude.{map, string_bytes};
 ghost use Rattle.wr_tools.specs.Answers.{Answers};
 ghost use Rattle.wr_tools.specs.Midl.{midl_command};
 ghost use Rattle.wr_tools.specs.Outside.{Outside};
 
-use crate::compile::image_of_source;
+use crate::outcome::{Outcome, compiled};
 use crate::say::say;
 use std::alloc::Global;
-use wr_outside::{ReadRefusal, Sink, Store, StoreFault, read_whole, write_whole};
+use wr_outside::{Sink, Store, StoreFault, write_whole};
 
-// How many bytes a source may have.
-const SOURCE_LIMIT: u64 = 4_194_304;
-
-/// Compiles the source and writes its image, and answers the status.
+/// Compiles the files and what they import and writes the image, and answers the status.
 pub fn midl<S: Store, O: Sink, E: Sink>(
     alloc: Global,
     image: &str,
-    source: &str,
+    files: &[String],
     store: &mut S,
     out: &mut O,
     err: &mut E,
@@ -36,23 +34,14 @@ pub fn midl<S: Store, O: Sink, E: Sink>(
           out_faults = O.faults out.new;
           err_faults = E.faults err.new;
         } in
-        Answers (midl_command image.now source.now) before after result }
+        Answers (midl_command image.now (map string_bytes files.now)) before after result }
 {
     let _ = out;
-    let bytes = match read_whole(alloc, store, source, SOURCE_LIMIT) {
-        Ok(bytes) => bytes,
-        Err(ReadRefusal::Missing) => return say(err, 3, source, ": Missing\n"),
-        Err(ReadRefusal::TooLong(_)) => return say(err, 3, source, ": TooLong\n"),
-        Err(ReadRefusal::Fault) => return say(err, 4, source, ": ReadFault\n"),
-        Err(ReadRefusal::Memory) => return 6,
-    };
-    let made = match image_of_source(alloc, &bytes) {
-        Ok(made) => made,
-        Err(_) => return 6,
-    };
-    match made {
-        None => say(err, 1, source, ": NotYet\n"),
-        Some(made) => match write_whole(store, image, &made) {
+    match compiled(alloc, files, store) {
+        Err(_) => 6,
+        Ok(Outcome::Refused(status, line)) => say(err, status, line.as_str(), ""),
+        Ok(Outcome::ReadFault(line)) => say(err, 4, line.as_str(), ""),
+        Ok(Outcome::Image(bytes)) => match write_whole(store, image, &bytes) {
             Ok(()) => 0,
             Err(StoreFault::Failed) => say(err, 5, image, ": WriteFault\n"),
             Err(StoreFault::Memory) => 6,

@@ -38,7 +38,7 @@ pub fn winrt_tool<S: Store, O: Sink, E: Sink>(
         Answers (command_of (map string_bytes words.now)) before after result }
 {
     match midl_of(words) {
-        Some((image, source)) => midl(alloc, image, source, store, out, err),
+        Some((image, files)) => midl(alloc, image, files, store, out, err),
         None => say(err, 2, "", "winrt: the words do not match\n"),
     }
 }

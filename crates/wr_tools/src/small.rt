@@ -1,0 +1,95 @@
+//! The enums that an image is written for so far.
+
+ghost use Rattle.std.specs.Prelude.{◌≡◌, ◌≢◌, ◌↔◌, map, string_bytes, IfOk, IsTrue, MatchBool};
+ghost use Rattle.std.specs.Char.{to_ascii_lowercase};
+ghost use Rattle.winmd_rows.specs.Fits.{IsInt32};
+ghost use Rattle.wr_tools.specs.SmallEnum.{AreDistinct, AreInt32, EnumIsSmall, IsSmallEnum, foundation, lower};
+
+use ranked::{Memory, Name};
+use std::alloc::Global;
+use std::collections::BTreeSet;
+use wr_base::{Case, Declaration, FullName};
+
+/// The most bytes of a full name.
+const LONGEST_NAME: usize = 511;
+
+/// The most cases of an enum.
+const MOST_CASES: usize = 200;
+
+fn is_int32(case: &Case) -> bool
+    ensures { IsTrue result ↔ IsInt32 case.now.value }
+{
+    -2147483648 <= case.value && case.value <= 2147483647
+}
+
+fn are_int32(cases: &[Case]) -> bool
+    ensures { IsTrue result ↔ AreInt32 cases.now }
+{
+    for case in cases {
+        if !is_int32(case) {
+            return false;
+        }
+    }
+    true
+}
+
+fn lowered(alloc: Global, name: &Name) -> Result<String, Memory>
+    ensures { IfOk result (λ text. string_bytes text ≡ map to_ascii_lowercase name.now) }
+{
+    let mut text = String::from_str(alloc, name.as_str())?;
+    text.make_ascii_lowercase();
+    Ok(text)
+}
+
+fn are_distinct(alloc: Global, cases: &[Case]) -> Result<bool, Memory>
+    ensures { IfOk result (λ distinct. MatchBool distinct (AreDistinct cases.now) (¬ (AreDistinct cases.now))) }
+{
+    let mut seen = BTreeSet::new(alloc);
+    for case in cases {
+        let added = seen.insert(lowered(alloc, &case.name)?)?;
+        if !added {
+            return Ok(false);
+        }
+    }
+    Ok(true)
+}
+
+fn is_apart(name: &FullName) -> bool
+    ensures { IsTrue result ↔ (lower name.now ≢ foundation) }
+{
+    !name.as_str().eq_ignore_ascii_case("windows.foundation")
+}
+
+fn enum_is_small(
+    alloc: Global,
+    name: &FullName,
+    version: u32,
+    flags: bool,
+    cases: &[Case],
+) -> Result<bool, Memory>
+    ensures { IfOk result (λ small. IsTrue small ↔ EnumIsSmall name.now version flags cases.now) }
+{
+    let text = name.as_str();
+    if flags || cases.len() > MOST_CASES || text.len() > LONGEST_NAME {
+        return Ok(false);
+    }
+    if !is_apart(name) || !are_int32(cases) {
+        return Ok(false);
+    }
+    are_distinct(alloc, cases)
+}
+
+/// Whether a declaration is an enum that an image is written for.
+pub fn is_small_enum(alloc: Global, declaration: &Declaration) -> Result<bool, Memory>
+    ensures { IfOk result (λ small. IsTrue small ↔ IsSmallEnum declaration.now) }
+{
+    match declaration {
+        Declaration::Enum {
+            name,
+            version,
+            flags,
+            cases,
+        } => enum_is_small(alloc, name, *version, *flags, cases.as_slice()),
+        _ => Ok(false),
+    }
+}
