@@ -3,14 +3,23 @@
 #![tactic(auto)]
 
 #[cfg(test)]
+mod built;
+#[cfg(test)]
 mod cuts;
+mod defined;
 #[cfg(test)]
 mod edits;
+#[cfg(test)]
+mod limits;
 #[cfg(test)]
 mod offsets;
 #[cfg(test)]
 mod reading;
 #[cfg(test)]
+mod rows;
+#[cfg(test)]
 mod shop;
 #[cfg(test)]
 mod writing;
+
+pub use defined::edits_are_as_defined;

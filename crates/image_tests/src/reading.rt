@@ -14,10 +14,11 @@ pub struct Stated {
     pub cases: &'static [(&'static str, i128)],
 }
 
-/// What an image states: one enum, no type, or a fault at an offset.
+/// What an image states: one enum or two, no type, or a fault at an offset.
 #[derive(Clone, Copy, Debug)]
 pub enum Want {
     One(Stated),
+    Two(Stated, Stated),
     Nothing,
     Fault(ImageKind, u64),
     NotYet(u64),
@@ -56,6 +57,10 @@ fn is_found(found: &Result<Vec<Declaration>, Unread>, want: Want) -> bool {
     match (found, want) {
         (Ok(types), Want::One(stated)) => match types.as_slice() {
             [declaration] => is_stated(declaration, &stated),
+            _ => false,
+        },
+        (Ok(types), Want::Two(first, second)) => match types.as_slice() {
+            [a, b] => is_stated(a, &first) && is_stated(b, &second),
             _ => false,
         },
         (Ok(types), Want::Nothing) => types.is_empty(),

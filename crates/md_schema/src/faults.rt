@@ -54,7 +54,7 @@ pub enum ImageKind {
     SigTail,
     /// A signature nests too deep.
     SigDeep,
-    /// A signature has a floating-point type, R4 or R8.
+    /// A signature has a floating-point type (II.23.1.16).
     FloatType,
     /// A type has a generic parameter (II.22.20).
     GenericDefinition,

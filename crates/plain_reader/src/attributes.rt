@@ -1,55 +1,84 @@
-//! The attributes of a type.
+//! The attributes of a type (ECMA-335 II.22.10).
 
-use crate::bytes::number_at;
+use crate::bytes::{begins, number_at};
 use crate::cells::{Tables, Target};
-use crate::names::{TypeName, name_at};
+use crate::lists::{METHODS, begin_of};
+use crate::names::{NO_NAME, TypeName, name_at};
 use crate::unread::fault;
 use md_schema::{ImageFault, ImageKind, Table};
 
-/// The name of the type of an attribute: that of the class of its constructor.
+/// The type that has a method, by its row: the last whose methods begin at this one or before it, since the lists follow each other.
+/// None is row 0.
+fn owner_of(tables: &Tables<'_>, method: u32) -> u32 {
+    let mut owner = 0;
+    for i in 0..tables.count(Table::TypeDef) {
+        let row = i + 1;
+        if begin_of(tables, METHODS, row) <= method {
+            owner = row;
+        }
+    }
+    owner
+}
+
+/// The name of the type of an attribute: that which its constructor belongs to, a method of this image or of another.
 fn name_of_attribute<'a>(tables: &Tables<'a>, row: u32) -> Result<TypeName<'a>, ImageFault> {
     let maker = tables.target(Table::CustomAttribute, row, 1)?;
     let offset = tables.offset(Table::CustomAttribute, row, 1);
-    if maker.table != Table::MemberRef {
-        return Ok(TypeName {
-            space: "",
-            name: "",
-        });
+    let is_method = maker.table == Table::MemberRef || maker.table == Table::MethodDef;
+    if !is_method {
+        return Ok(NO_NAME);
     }
-    if maker.row == 0 || maker.row > tables.count(Table::MemberRef) {
+    if !tables.has_row(maker) {
         return Err(fault(ImageKind::RowRange, offset));
     }
-    let class = tables.target(Table::MemberRef, maker.row, 0)?;
-    name_at(tables, class, offset)
+    if maker.table == Table::MemberRef {
+        let class = tables.target(Table::MemberRef, maker.row, 0)?;
+        return name_at(tables, class, tables.offset(Table::MemberRef, maker.row, 0));
+    }
+    let owner = Target {
+        table: Table::TypeDef,
+        row: owner_of(tables, maker.row),
+    };
+    name_at(tables, owner, offset)
 }
 
-/// The version that the attributes of a type state: 1 where none does. Every attribute of the type is read.
+/// The version in the value of an attribute: behind the two bytes of the prolog, 1 and 0 (II.23.3).
+fn version_in(value: &[u8]) -> Option<u32> {
+    if begins(value, 0, &[1, 0]) && value.len() >= 6 {
+        Some(number_at(value, 2, 4))
+    } else {
+        None
+    }
+}
+
+/// The version that the attributes of a type state: 1 where none does. The type of every attribute is looked at, and the value of this one alone.
 pub fn version_of(tables: &Tables<'_>, type_row: u32) -> Result<u32, ImageFault> {
     let owner = Target {
         table: Table::TypeDef,
         row: type_row,
     };
-    let mut version: Option<&[u8]> = None;
+    let mut found: Option<u32> = None;
     let mut is_repeated = false;
     for i in 0..tables.count(Table::CustomAttribute) {
         let row = i + 1;
         if tables.leads(Table::CustomAttribute, row, 0, owner) {
             let name = name_of_attribute(tables, row)?;
-            let value = tables.blob(Table::CustomAttribute, row, 2)?;
             if name.is("Windows.Foundation.Metadata", "VersionAttribute") {
-                is_repeated = is_repeated || version.is_some();
-                version = Some(value);
+                is_repeated = is_repeated || found.is_some();
+                found = Some(row);
             }
         }
     }
-    let shape = Err(fault(
+    let shape = fault(
         ImageKind::BadShape,
         tables.offset(Table::TypeDef, type_row, 0),
-    ));
-    match version {
+    );
+    match found {
         None => Ok(1),
-        // Two bytes stand before the number (II.23.3).
-        Some(value) if value.len() >= 6 && !is_repeated => Ok(number_at(value, 2, 4)),
-        Some(_) => shape,
+        Some(_) if is_repeated => Err(shape),
+        Some(row) => {
+            let value = tables.blob(Table::CustomAttribute, row, 2)?;
+            version_in(value).ok_or(shape)
+        }
     }
 }

@@ -9,6 +9,9 @@ use crate::streams::{Range, Streams};
 use crate::unread::fault;
 use md_schema::{Column, ImageFault, ImageKind, Sizes, TABLES, Table, columns, decode, width};
 
+/// How many bytes the header of the stream has, up to the row counts.
+const HEADER_SIZE: u64 = 24;
+
 /// The tables' stream of an image, and the heaps that cells lead to.
 #[derive(Clone, Copy, Debug)]
 pub struct Tables<'a> {
@@ -18,8 +21,10 @@ pub struct Tables<'a> {
     texts: &'a [u8],
     blobs: &'a [u8],
     sizes: Sizes,
-    /// Where the rows begin in the stream.
-    rows: u64,
+    /// Where the rows of each table begin in the stream, by the number of the table.
+    starts: [u64; 45],
+    /// How many bytes a row of each table has.
+    row_sizes: [u64; 45],
 }
 
 /// A row that a cell leads to, by its number from 1. Number 0 leads to none.
@@ -83,7 +88,7 @@ fn counts(stream: &[u8], valid: Valid) -> [u32; 45] {
     let mut rows = [0u32; 45];
     for n in 0..45u32 {
         if valid.has(n) {
-            let at = valid.below(n).saturating_mul(4).saturating_add(24);
+            let at = valid.below(n).saturating_mul(4).saturating_add(HEADER_SIZE);
             rows[n as usize] = number_at(stream, at, 4);
         }
     }
@@ -115,16 +120,43 @@ fn size_below(sizes: &Sizes, number: u8) -> u64 {
     sum
 }
 
+/// Where the rows of each table begin, where those of all tables begin at an offset.
+fn starts(sizes: &Sizes, rows: u64) -> [u64; 45] {
+    let mut starts = [0u64; 45];
+    for n in 0..45u8 {
+        starts[n as usize] = rows.saturating_add(size_below(sizes, n));
+    }
+    starts
+}
+
+/// How many bytes a row of each table has, by the number of the table.
+fn row_sizes(sizes: &Sizes) -> [u64; 45] {
+    let mut row_sizes = [0u64; 45];
+    for table in TABLES.iter() {
+        row_sizes[table.number() as usize] = widths(sizes, columns(*table));
+    }
+    row_sizes
+}
+
+/// The number of a table in such a list.
+fn entry(list: &[u64; 45], table: Table) -> u64 {
+    list[table.number() as usize]
+}
+
 /// The bytes of a stream.
 fn bytes_in(image: &[u8], range: Range) -> &[u8] {
     part(image, range.offset, range.size)
 }
 
 impl<'a> Tables<'a> {
-    /// The tables of an image with these streams. A table that is none, and rows past the stream, are faults.
+    /// The tables of an image with these streams. A header that is cut, a table that is none, and rows past the stream, are faults.
     pub fn new(image: &'a [u8], streams: &Streams) -> Result<Tables<'a>, ImageFault> {
         let at = streams.tables.offset;
         let stream = bytes_in(image, streams.tables);
+        let end = at.saturating_add(stream.len() as u64);
+        if (stream.len() as u64) < HEADER_SIZE {
+            return Err(fault(ImageKind::ShortTable, end));
+        }
         let valid = Valid {
             low: number_at(stream, 8, 4),
             high: number_at(stream, 12, 4),
@@ -139,9 +171,12 @@ impl<'a> Tables<'a> {
             long_blobs: has_bit(heaps, 2),
             rows: counts(stream, valid),
         };
-        let rows = valid.below(64).saturating_mul(4).saturating_add(24);
+        let rows = valid
+            .below(64)
+            .saturating_mul(4)
+            .saturating_add(HEADER_SIZE);
         if rows.saturating_add(size_below(&sizes, u8::MAX)) > stream.len() as u64 {
-            return Err(fault(ImageKind::ShortTable, at));
+            return Err(fault(ImageKind::ShortTable, end));
         }
         Ok(Tables {
             at,
@@ -149,7 +184,8 @@ impl<'a> Tables<'a> {
             texts: bytes_in(image, streams.texts),
             blobs: bytes_in(image, streams.blobs),
             sizes,
-            rows,
+            starts: starts(&sizes, rows),
+            row_sizes: row_sizes(&sizes),
         })
     }
 
@@ -158,18 +194,19 @@ impl<'a> Tables<'a> {
         self.sizes.count(table)
     }
 
+    /// Whether there is this row.
+    pub fn has_row(&self, target: Target) -> bool {
+        target.row >= 1 && target.row <= self.count(target.table)
+    }
+
     /// Where a cell stands in the stream. Rows count from 1, columns from 0.
     fn place(&self, table: Table, row: u32, column: usize) -> u64 {
-        let before = size_below(&self.sizes, table.number());
-        let above = widths(&self.sizes, columns(table)).saturating_mul(
-            (row as u64).saturating_sub(1),
-        );
+        let above = entry(&self.row_sizes, table).saturating_mul((row as u64).saturating_sub(1));
         let left = match columns(table).get(..column) {
             Some(columns) => widths(&self.sizes, columns),
             None => 0,
         };
-        self.rows
-            .saturating_add(before)
+        entry(&self.starts, table)
             .saturating_add(above)
             .saturating_add(left)
     }

@@ -80,6 +80,9 @@ fn in_sections(
     Err(fault(ImageKind::BadRva, sections.first + 40 * sections.count))
 }
 
+/// How many bytes the CLI header has (II.25.3.3).
+const CLI_SIZE: u64 = 72;
+
 /// The metadata: its root, and how many bytes it has.
 fn metadata(image: &[u8]) -> Result<Range, ImageFault>
     ensures offset { IfOk result (λ range. range.offset < 2 ^ 33) }
@@ -102,7 +105,11 @@ fn metadata(image: &[u8]) -> Result<Range, ImageFault>
         count,
         first: pe + 24 + optional,
     };
-    let cli = in_sections(image, &sections, address, 72)?;
+    let cli = in_sections(image, &sections, address, CLI_SIZE)?;
+    // The header begins with its own size (II.25.3.3).
+    if field(image, ImageKind::NoCli, cli, 4)? != CLI_SIZE {
+        return Err(fault(ImageKind::NoCli, cli));
+    }
     let root = field(image, ImageKind::NoCli, cli + 8, 4)?;
     let size = field(image, ImageKind::NoCli, cli + 12, 4)?;
     let offset = in_sections(image, &sections, root, size)?;

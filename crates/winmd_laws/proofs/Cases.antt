@@ -1,8 +1,8 @@
 -- Reading the rows of one enum gives it.
-use Rattle.std.proofs.Common.{◌≡◌, ℕ, suc, ◌-◌, ◌^◌, ◌<◌, ◌≤◌, Bool, true, false, eqb, ltb, List, [], ◌∷◌, map, Some, None, Ok, refl, ap, ◌∙◌, arith}
+use Rattle.std.proofs.Common.{◌≡◌, ℕ, suc, ◌-◌, ◌^◌, ◌<◌, ◌≤◌, Bool, true, false, eqb, ltb, leb, List, [], ◌∷◌, length, map, Some, None, Ok, refl, ap, ◌∙◌, arith}
 use Rattle.std.specs.Prelude.{ℤ, pos, negsuc}
 use Rattle.std.specs.List.{filter, AllByRecursion}
-use Rattle.std.proofs.lemmas.Bool.{ne_eqb, eq-eqb, lt-ltb, le-ltb}
+use Rattle.std.proofs.lemmas.Bool.{ne_eqb, eq-eqb, lt-ltb, le-ltb, le-leb}
 use Rattle.std.proofs.lemmas.Int.{ints}
 use Rattle.md_schema.specs.declared.table.Table.TheVariants as tables
 use Rattle.md_bytes.specs.Bytes.{le, number}
@@ -67,8 +67,9 @@ cases_read offset rows n (c ∷ cs) fits h =
     let bits : number (le 4 (bits_of_int c.value)) ≡ bits_of_int c.value = number-le 4 (bits_of_int c.value) (bits_low c.value fits.0.value) in
     let value : int_of_bits false (bits_of_int c.value) ≡ c.value = int_again c.value fits.0.value in
     let named = fits.0.named in
+    let short : leb (length c.name) 255 ≡ true = le-leb _ _ fits.0.short in
     let rest = cases_read offset rows (suc n) cs fits.1 (further n c cs (rows tables.Constant) h) in
-    rw (one, bits, named, value, rest) refl
+    rw (named, short, one, bits, value, rest) refl
 
 pub holders_read : (n : ℕ) (cs : List Case) → each holder_of (numbered n (map stated_row (map case_row cs))) ≡ Ok (map (λ c. None) cs)
 holders_read n [] = refl

@@ -6,7 +6,7 @@ use Rattle.std.proofs.lemmas.List.{drop_at}
 use Rattle.md_bytes.specs.Bytes.{le, part_at}
 use Rattle.md_bytes.specs.Stands.{Stands}
 use Rattle.md_bytes.proofs.StandsLemmas.{stands_first, stands_before, stands_in, read_at}
-use Rattle.winmd_rows.specs.Faults.{BadStream, NoRoot}
+use Rattle.md_schema.specs.declared.faults.ImageKind.TheVariants.{BadStream, NoRoot}
 use Rattle.winmd_rows.specs.Streams.{field, begins, name_to_zero, headers, up4, Stream, streams_of}
 use Rattle.md_schema.specs.Streams.{Streams}
 use Rattle.winmd_rows.specs.Spelled.{Parts, metadata, metadata_head, root_head, stream_heads, image_bytes, zeros}

@@ -7,7 +7,8 @@ use Rattle.md_bytes.specs.Bytes.{le}
 use Rattle.md_bytes.specs.Stands.{Stands}
 use Rattle.md_bytes.proofs.StandsLemmas.{stands_first, stands_before, stands_in}
 use Rattle.md_bytes.proofs.NumberLemmas.{length-le, read_number}
-use Rattle.winmd_rows.specs.Faults.{Kind, NotPe}
+use Rattle.md_schema.specs.declared.faults.ImageKind.{ImageKind}
+use Rattle.md_schema.specs.declared.faults.ImageKind.TheVariants.{NotPe}
 use Rattle.winmd_rows.specs.Streams.{field}
 use Rattle.winmd_rows.specs.Spelled.{Parts, dos_header, file_header, optional_header, section_header, cli_header, metadata, image_bytes, zeros, up}
 
@@ -18,7 +19,7 @@ pub stands_length : (whole part : List ℕ) (offset : ℕ) → Stands whole offs
 stands_length whole part offset s = omega (arith, ap length s.split, length-append s.front (part ++ s.back), length-append part s.back, s.at)
 
 -- a number that stands at an offset is read there
-pub field_at : (bytes : List ℕ) (kind : Kind) (offset w n : ℕ) → n < 256 ^ w → Stands bytes offset (le w n) → field bytes kind offset w ≡ Ok n
+pub field_at : (bytes : List ℕ) (kind : ImageKind) (offset w n : ℕ) → n < 256 ^ w → Stands bytes offset (le w n) → field bytes kind offset w ≡ Ok n
 field_at bytes kind offset w n lt s =
     let fits : ltb (length bytes) (offset + w) ≡ false = le-ltb _ _ (omega (arith, stands_length bytes (le w n) offset s, length-le w n)) in
     rw fits (ap (λ (k : ℕ). Ok k) (read_number bytes offset w n lt s))
@@ -108,7 +109,11 @@ pub cli_in : (n : ℕ) → Stands (optional_header n) 208 (le 4 0x2000)
 unfolding optional_header zeros
 cli_in n = record { front = take 208 (optional_header n); back = drop 212 (optional_header n); split = refl; at = refl }
 
--- where the metadata stands, and how long it is
+-- the size of the CLI header, where the metadata stands, and how long it is
+pub header_in : (m : ℕ) → Stands (cli_header m) 0 (le 4 72)
+unfolding cli_header zeros
+header_in m = record { front = []; back = drop 4 (cli_header m); split = refl; at = refl }
+
 pub root_in : (m : ℕ) → Stands (cli_header m) 8 (le 4 0x2048)
 unfolding cli_header zeros
 root_in m = record { front = take 8 (cli_header m); back = drop 12 (cli_header m); split = refl; at = refl }

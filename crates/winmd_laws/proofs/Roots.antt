@@ -5,10 +5,10 @@ use Rattle.std.proofs.lemmas.Bool.{le-leb, eq-eqb}
 use Rattle.md_bytes.specs.Bytes.{le}
 use Rattle.md_bytes.specs.Stands.{Stands}
 use Rattle.md_bytes.proofs.StandsLemmas.{stands_in, read_at}
-use Rattle.winmd_rows.specs.Faults.{NotPe, NoCli}
+use Rattle.md_schema.specs.declared.faults.ImageKind.TheVariants.{NotPe, NoCli}
 use Rattle.winmd_rows.specs.Streams.{field, in_sections, root_of, begins}
 use Rattle.winmd_rows.specs.Spelled.{Parts, dos_header, file_header, optional_header, section_header, cli_header, metadata, image_bytes, zeros, up}
-use Rattle.winmd_laws.proofs.Headers.{laid, field_at, stands_length, sections_in, cli_in, root_in, size_in, section_in, pe_read}
+use Rattle.winmd_laws.proofs.Headers.{laid, field_at, stands_length, sections_in, cli_in, header_in, root_in, size_in, section_in, pe_read}
 
 -- the one section holds each range within it
 in_section : (p : Parts) (rva size : ℕ) → 72 + length (metadata p) < 2 ^ 31 → 0x2000 ≤ rva → rva + size ≤ 0x2000 + (72 + length (metadata p)) → in_sections (image_bytes p) 1 0x178 rva size ≡ Ok (0x200 + (rva - 0x2000))
@@ -66,7 +66,8 @@ root_found p small =
     let magic : field img NotPe 0x98 2 ≡ Ok 0x10B = field_at img NotPe 0x98 2 0x10B (lit< tt) (stands_in img (optional_header n) (le 2 0x10B) 0x98 0 l.optional (magic_in n)) in
     let rva : field img NoCli 0x168 4 ≡ Ok 0x2000 = field_at img NoCli 0x168 4 0x2000 (lit< tt) (stands_in img (optional_header n) (le 4 0x2000) 0x98 208 l.optional (cli_in n)) in
     let cli : in_sections img 1 0x178 0x2000 72 ≡ Ok 0x200 = in_section p 0x2000 72 small (omega arith) (omega arith) in
+    let header : field img NoCli 0x200 4 ≡ Ok 72 = field_at img NoCli 0x200 4 72 (lit< tt) (stands_in img (cli_header m) (le 4 72) 0x200 0 l.cli (header_in m)) in
     let root : field img NoCli 0x208 4 ≡ Ok 0x2048 = field_at img NoCli 0x208 4 0x2048 (lit< tt) (stands_in img (cli_header m) (le 4 0x2048) 0x200 8 l.cli (root_in m)) in
     let size : field img NoCli 0x20C 4 ≡ Ok m = field_at img NoCli 0x20C 4 m (omega arith) (stands_in img (cli_header m) (le 4 m) 0x200 12 l.cli (size_in m)) in
     let meta : in_sections img 1 0x178 0x2048 m ≡ Ok 0x248 = in_section p 0x2048 m small (omega arith) (omega arith) in
-    rw (mz, pe, sig, secs, opt, magic, rva, cli, root, size, meta) refl
+    rw (mz, pe, sig, secs, opt, magic, rva, cli, header, root, size, meta) refl

@@ -1,14 +1,15 @@
 -- What an image means, as statements about its bytes.
-use Rattle.std.specs.Prelude.{◌≡◌, ℕ, ◌+◌, ◌<◌, ◌^◌, nat_le, not, ◌&&◌, true, List, [], ◌∷◌, length, Bool, Result, IsTrue, if◌then◌else◌}
-use Rattle.std.specs.List.{list_all, list_any, AllByRecursion}
+use Rattle.std.specs.Prelude.{◌≡◌, ℕ, ◌+◌, ◌<◌, ◌^◌, not, ◌&&◌, true, List, [], ◌∷◌, length, Bool, Option, Some, None, Result, Ok, IsTrue}
+use Rattle.std.specs.List.{list_any, AllByRecursion}
 use Rattle.std.specs.Str.{bytes_eq}
-use Rattle.md_schema.specs.Schema.{all_tables, number_of}
+use Rattle.md_schema.specs.declared.faults.ImageFault.{ImageFault}
 use Rattle.md_schema.specs.Streams.{Streams, bytes_in}
-use Rattle.md_schema.specs.Tables.{has_bit, offset_of, raw, rows_end, upto, valid_of}
+use Rattle.md_schema.specs.Tables.{offset_of, raw}
 use Rattle.md_schema.specs.Written.{Fit}
+use Rattle.md_tables.specs.Faults.{fault_of}
 use Rattle.wr_base.specs.declared.declaration.Declaration.{Declaration}
 use Rattle.winmd_rows.specs.Entries.{Entries, texts_in, blobs_in, numbers_of}
-use Rattle.winmd_rows.specs.Faults.{Fault, ShortTable, UnknownTable, ◌>>=◌, checked}
+use Rattle.winmd_rows.specs.Faults.{Fault, fault, ◌>>=◌}
 use Rattle.winmd_rows.specs.Fits.{Fits}
 use Rattle.winmd_rows.specs.Images.{parts_with, sizes_for}
 use Rattle.winmd_rows.specs.Spelled.{image_bytes, metadata}
@@ -27,23 +28,14 @@ heaps_of bytes streams = record { texts = bytes_in bytes streams.texts; blobs = 
 abbrev pub offsets : ℕ → List ℕ → Offsets
 offsets at tables table row column = at + offset_of tables table row column
 
--- the number is that of a table
-abbrev pub is_known : ℕ → Bool
-is_known n = list_any (λ table. nat_le n (number_of table) && nat_le (number_of table) n) all_tables
-
--- a bit that is set is that of a table
-abbrev pub bit_known : ℕ → ℕ → Bool
-bit_known valid n = if has_bit valid n then is_known n else true
-
--- each bit up to the last is that of a table, and the rows end within the stream
-abbrev pub tables_fit : ℕ → List ℕ → Result Bool Fault
-tables_fit at tables = do
-  known ← checked (list_all (bit_known (valid_of tables)) (upto 0 64)) UnknownTable (at + 8)
-  checked (nat_le (rows_end tables) (length tables)) ShortTable at
+-- a fault of a stream that begins at an offset
+abbrev pub moved : ℕ → Option ImageFault → Result Bool Fault
+moved at None = Ok true
+moved at (Some found) = fault found.kind (at + found.offset)
 
 -- the declarations that a tables' stream at an offset states with its heaps
 abbrev pub types_in : ℕ → List ℕ → Heaps → Result (List Declaration) Fault
-types_in at tables heaps = tables_fit at tables >>= λ fit. types_of (offsets at tables) (followed heaps (offsets at tables) (raw tables))
+types_in at tables heaps = moved at (fault_of tables) >>= λ whole. types_of (offsets at tables) (followed heaps (offsets at tables) (raw tables))
 
 -- The declarations that an image states.
 abbrev pub TypesOf : List ℕ → Result (List Declaration) Fault

@@ -4,6 +4,7 @@ use Rattle.wr_base.specs.Paths.{is_identifier, is_path}
 use Rattle.wr_base.specs.declared.declaration.Case.{Case}
 use Rattle.wr_base.specs.declared.declaration.Declaration.{Declaration}
 use Rattle.wr_base.specs.declared.declaration.Declaration.TheVariants.{Enum}
+use Rattle.winmd_rows.specs.Types.{is_short_name}
 
 -- a signed number of 32 bits
 pub record IsInt32 (value : ℤ) : Type 0 where
@@ -19,7 +20,7 @@ pub record CaseFits (case_ : Case) : Type 0 where
 -- an enum without flags, of at most 200 cases, so that every index has two bytes
 pub record EnumFits (name : List ℕ) (version : ℕ) (flags : Bool) (cases : List Case) : Type 0 where
   pub path : IsTrue (is_path name)
-  pub short : length name ≤ 511
+  pub short : IsTrue (is_short_name name)
   pub numbered : version < 2 ^ 32
   pub plain : flags ≡ false
   pub few : length cases ≤ 200

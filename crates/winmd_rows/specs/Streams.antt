@@ -1,14 +1,16 @@
 -- The five streams of an image, found by offsets.
-use Rattle.std.specs.Prelude.{ℕ, zero, suc, ◌+◌, ◌-◌, ◌*◌, ◌/◌, ◌==◌, ◌&&◌, ◌||◌, not, nat_lt, nat_le, bytes_eq, codes, Bool, List, [], ◌∷◌, length, Option, Some, None, Result, Ok, Err, if◌then◌else◌}
+use Rattle.std.specs.Prelude.{ℕ, zero, suc, ◌+◌, ◌-◌, ◌*◌, ◌/◌, ◌==◌, ◌&&◌, ◌||◌, not, nat_lt, nat_le, bytes_eq, codes, Bool, List, [], ◌∷◌, length, Option, Some, None, Result, Ok, if◌then◌else◌}
 use Rattle.std.specs.List.{list_any}
 use Rattle.std.specs.Option.{option_map_or}
 use Rattle.md_bytes.specs.Bytes.{number_at, part_at}
 use Rattle.md_schema.specs.Streams.{Range, Streams}
-use Rattle.winmd_rows.specs.Faults.{Kind, Fault, NotPe, NoCli, BadRva, NoRoot, NotWindowsRuntime, BadStream, Uncompressed, MissingStream, ◌>>=◌, checked}
+use Rattle.md_schema.specs.declared.faults.ImageKind.{ImageKind}
+use Rattle.md_schema.specs.declared.faults.ImageKind.TheVariants.{NotPe, NoCli, BadRva, NoRoot, NotWindowsRuntime, BadStream, Uncompressed, MissingStream}
+use Rattle.winmd_rows.specs.Faults.{Fault, fault, ◌>>=◌, checked}
 
 -- the number of so many bytes at an offset, within the bytes
-abbrev pub field : List ℕ → Kind → ℕ → ℕ → Result ℕ Fault
-field bytes kind offset width = if nat_lt (length bytes) (offset + width) then Err (record { kind = kind; offset = offset }) else Ok (number_at bytes offset width)
+abbrev pub field : List ℕ → ImageKind → ℕ → ℕ → Result ℕ Fault
+field bytes kind offset width = if nat_lt (length bytes) (offset + width) then fault kind offset else Ok (number_at bytes offset width)
 
 -- a text stands at an offset
 abbrev pub begins : List ℕ → ℕ → List ℕ → Bool
@@ -16,7 +18,7 @@ begins bytes offset text = bytes_eq (part_at bytes offset (length text)) text
 
 -- Of the sections from an offset on, the first that holds the range, with all of its bytes in the image.
 unfoldable pub in_sections : List ℕ → ℕ → ℕ → ℕ → ℕ → Result ℕ Fault
-in_sections bytes zero header rva size = Err (record { kind = BadRva; offset = header })
+in_sections bytes zero header rva size = fault BadRva header
 in_sections bytes (suc count) header rva size = do
   start ← field bytes NotPe (header + 12) 4
   raw_size ← field bytes NotPe (header + 16) 4
@@ -54,7 +56,7 @@ named name (s ∷ streams) = if bytes_eq s.name name then Some s else named name
 
 -- a stream that has to be there
 abbrev pub needed : List Stream → ℕ → List ℕ → Result Range Fault
-needed streams root name = option_map_or (λ s. Ok s.range) (named name streams) (Err (record { kind = MissingStream; offset = root }))
+needed streams root name = option_map_or (λ s. Ok s.range) (named name streams) (fault MissingStream root)
 
 -- a stream that may be missing: it has no bytes then
 abbrev pub optional : List Stream → List ℕ → Range
@@ -72,6 +74,8 @@ root_of bytes = do
   known ← checked (magic == 0x10B || magic == 0x20B) NotPe (pe + 24)
   cli_rva ← field bytes NoCli (pe + 24 + (if magic == 0x10B then 208 else 224)) 4
   cli ← in_sections bytes sections (pe + 24 + optional) cli_rva 72
+  header ← field bytes NoCli cli 4
+  whole ← checked (header == 72) NoCli cli
   rva ← field bytes NoCli (cli + 8) 4
   size ← field bytes NoCli (cli + 12) 4
   root ← in_sections bytes sections (pe + 24 + optional) rva size

@@ -1,6 +1,9 @@
--- Full names in two parts, and the values of cases in 32 bits.
-use Rattle.std.specs.Prelude.{ℕ, suc, ◌-◌, ◌^◌, ◌==◌, Bool, true, false, List, [], ◌∷◌, nat_lt, if◌then◌else◌, ℤ, pos, negsuc}
-use Rattle.std.specs.List.{list_any}
+-- Full names, and the values of cases in 32 bits.
+use Rattle.std.specs.Prelude.{ℕ, suc, ◌-◌, ◌^◌, ◌==◌, ◌&&◌, Bool, true, false, List, [], ◌∷◌, length, nat_lt, nat_le, if◌then◌else◌, ℤ, pos, negsuc}
+use Rattle.std.specs.List.{list_any, list_all}
+use Rattle.wr_base.specs.Paths.{parts_of}
+
+-- ---- a full name in two parts
 
 -- there is a dot
 abbrev pub has_dot : List ℕ → Bool
@@ -15,6 +18,17 @@ name_part (b ∷ bytes) = if has_dot bytes then name_part bytes else if b == 46 
 abbrev pub space_part : List ℕ → List ℕ
 space_part [] = []
 space_part (b ∷ bytes) = if has_dot bytes then b ∷ space_part bytes else []
+
+-- ---- how long names may be
+
+abbrev pub is_short_part : List ℕ → Bool
+is_short_part part = nat_le (length part) 255
+
+-- each part of a full name has at most 255 bytes, and the whole at most 511
+abbrev pub is_short_name : List ℕ → Bool
+is_short_name full = nat_le (length full) 511 && list_all is_short_part (parts_of full)
+
+-- ---- values
 
 -- the 32 bits of a number, as two's complement
 abbrev pub bits_of_int : ℤ → ℕ

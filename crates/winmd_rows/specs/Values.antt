@@ -5,7 +5,9 @@ use Rattle.md_schema.specs.declared.column.Column.{Column}
 use Rattle.md_schema.specs.declared.column.Column.TheVariants.{One, Two, Four, Texts, Guids, Blobs, Index, Coded}
 use Rattle.md_schema.specs.Schema.{columns_of, choices_of, bits_of}
 use Rattle.md_schema.specs.Codes.{target_of}
-use Rattle.winmd_rows.specs.Faults.{Kind, BadTag, Fault}
+use Rattle.md_schema.specs.declared.faults.ImageKind.{ImageKind}
+use Rattle.md_schema.specs.declared.faults.ImageKind.TheVariants.{BadTag}
+use Rattle.winmd_rows.specs.Faults.{Fault, fault}
 use Rattle.winmd_rows.specs.Heaps.{text_at, blob_at}
 
 -- what a cell states
@@ -20,20 +22,20 @@ pub record Heaps : Type 0 where
   pub texts : List ℕ
   pub blobs : List ℕ
 
-abbrev pub text_value : Result (List ℕ) Kind → Result Value Kind
+abbrev pub text_value : Result (List ℕ) ImageKind → Result Value ImageKind
 text_value (Ok text) = Ok (Text text)
 text_value (Err kind) = Err kind
 
-abbrev pub blob_value : Result (List ℕ) Kind → Result Value Kind
+abbrev pub blob_value : Result (List ℕ) ImageKind → Result Value ImageKind
 blob_value (Ok text) = Ok (Blob text)
 blob_value (Err kind) = Err kind
 
 -- a coded index, by the table and the row that it names; row 0 stands for nothing
-abbrev pub choice : Option (Table × ℕ) → Result Value Kind
+abbrev pub choice : Option (Table × ℕ) → Result Value ImageKind
 choice None = Err BadTag
 choice (Some target) = Ok (To target.0 target.1)
 
-abbrev pub follow : Heaps → Column → ℕ → Result Value Kind
+abbrev pub follow : Heaps → Column → ℕ → Result Value ImageKind
 follow heaps One n = Ok (Number n)
 follow heaps Two n = Ok (Number n)
 follow heaps Four n = Ok (Number n)
@@ -47,9 +49,9 @@ follow heaps (Coded coded) n = choice (target_of (bits_of coded) (choices_of cod
 abbrev pub Cell : Type 0
 Cell = Result Value Fault
 
-abbrev pub placed : ℕ → Result Value Kind → Cell
+abbrev pub placed : ℕ → Result Value ImageKind → Cell
 placed offset (Ok value) = Ok value
-placed offset (Err kind) = Err (record { kind = kind; offset = offset })
+placed offset (Err kind) = fault kind offset
 
 -- one row: where each cell stands, its columns, and the numbers there
 abbrev pub followed_row : Heaps → (ℕ → ℕ) → ℕ → List Column → List ℕ → List Cell

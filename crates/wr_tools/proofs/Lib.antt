@@ -7,3 +7,4 @@ mod WordLemmas
 mod WordsOwed
 mod Distinct
 pub mod BareLemmas
+pub mod SmallLemmas

@@ -7,6 +7,7 @@ use Rattle.wr_base.specs.declared.declaration.Case.{Case}
 use Rattle.wr_base.specs.declared.declaration.Declaration.{Declaration}
 use Rattle.wr_base.specs.declared.declaration.Declaration.TheVariants.{Enum}
 use Rattle.winmd_rows.specs.Fits.{IsInt32}
+use Rattle.winmd_rows.specs.Types.{is_short_name}
 
 abbrev pub lower : List ℕ → List ℕ
 lower = map to_ascii_lowercase
@@ -37,7 +38,7 @@ pub record EnumIsSmall (name : List ℕ) (version : ℕ) (flags : Bool) (cases :
   pub within : AreInt32 cases
   -- no namespace that holds found types has its name
   pub apart : lower name ≢ foundation
-  pub short : length name ≤ 511
+  pub short : IsTrue (is_short_name name)
 
 abbrev pub IsSmallEnum : Declaration → Type 0
 IsSmallEnum (Enum name version flags cases) = EnumIsSmall name version flags cases
