@@ -5,6 +5,7 @@ mod headers;
 mod heap;
 mod image;
 mod layout;
+mod limits;
 mod metadata;
 mod names;
 mod numbers;
@@ -15,3 +16,4 @@ mod texts;
 mod values;
 
 pub use image::enum_image;
+pub use limits::is_short_name;

@@ -1,12 +1,9 @@
 //! The image that is written for an enum of a name and cases.
 
-ghost use Rattle.std.specs.Prelude.{◌≡◌, ◌≤◌, All, IfOk, IfSome, length};
-ghost use Rattle.std.specs.List.{list_all};
-ghost use Rattle.wr_base.specs.Paths.{parts_of};
+ghost use Rattle.std.specs.Prelude.{◌≤◌, All, IfOk, IfSome, length};
 ghost use Rattle.winmd_rows.specs.Fits.{CaseFits, Fits};
-ghost use Rattle.winmd_rows.specs.Types as types_as;
 
-use enum_image::enum_image;
+use enum_image::{enum_image, is_short_name};
 use std::alloc::{AllocError, Global};
 use std::test::Fail;
 use wr_base::{Case, Cases, Declaration, FullName, Name, tests_identifier};
@@ -43,26 +40,6 @@ fn cases_of(alloc: Global, stated: &[(&str, i128)]) -> Result<Option<Vec<Case>>,
     Ok(Some(cases))
 }
 
-fn is_short_part(part: &[u8]) -> bool
-    ensures { result ≡ types_as.is_short_part part.now }
-{
-    part.len() <= 255
-}
-
-fn has_short_parts(full: &[u8]) -> bool
-    ensures { result ≡ list_all types_as.is_short_part (parts_of full.now) }
-{
-    full.split(|byte| *byte == b'.')
-        .all(|part| is_short_part(part))
-}
-
-/// Whether a full name is short enough: at most 511 bytes, and each part at most 255.
-fn is_short_name(full: &[u8]) -> bool
-    ensures { result ≡ types_as.is_short_name full.now }
-{
-    full.len() <= 511 && has_short_parts(full)
-}
-
 /// The enum of version 1 with this full name and these cases, if it can be written.
 fn enum_of(
     alloc: Global,
@@ -71,12 +48,12 @@ fn enum_of(
 ) -> Result<Option<Declaration>, AllocError>
     ensures { IfOk result (λ made. IfSome made Fits) }
 {
-    if !is_short_name(name.as_bytes()) {
-        return Ok(None);
-    }
     let Some(name) = FullName::new(String::from_str(alloc, name)?) else {
         return Ok(None);
     };
+    if !is_short_name(&name) {
+        return Ok(None);
+    }
     let Some(cases) = cases_of(alloc, stated)? else {
         return Ok(None);
     };

@@ -2,21 +2,14 @@
 
 ghost use Rattle.std.specs.Prelude.{◌≡◌, ◌≢◌, ◌↔◌, map, string_bytes, IfOk, IsTrue, MatchBool};
 ghost use Rattle.std.specs.Char.{to_ascii_lowercase};
-ghost use Rattle.std.specs.List.{list_all};
-ghost use Rattle.wr_base.specs.Paths.{is_path, parts_of};
 ghost use Rattle.winmd_rows.specs.Fits.{IsInt32};
-ghost use Rattle.winmd_rows.specs.Types as types;
 ghost use Rattle.wr_tools.specs.SmallEnum.{AreDistinct, AreInt32, EnumIsSmall, IsSmallEnum, foundation, lower};
 
+use enum_image::is_short_name;
 use ranked::{Memory, Name};
 use std::alloc::Global;
 use std::collections::BTreeSet;
 use wr_base::{Case, Declaration, FullName};
-
-/// The most bytes of a full name, and of each of its parts.
-const LONGEST_NAME: usize = 511;
-
-const LONGEST_PART: usize = 255;
 
 /// The most cases of an enum.
 const MOST_CASES: usize = 200;
@@ -57,26 +50,6 @@ fn are_distinct(alloc: Global, cases: &[Case]) -> Result<bool, Memory>
         }
     }
     Ok(true)
-}
-
-fn is_short_part(part: &[u8]) -> bool
-    ensures { result ≡ types.is_short_part part.now }
-{
-    part.len() <= LONGEST_PART
-}
-
-fn has_short_parts(name: &[u8]) -> bool
-    ensures { result ≡ list_all types.is_short_part (parts_of name.now) }
-{
-    name.split(|b| *b == b'.').all(|part| is_short_part(part))
-}
-
-fn is_short_name(name: &FullName) -> bool
-    ensures short { result ≡ types.is_short_name name.now }
-    ensures path { IsTrue (is_path name.now) }
-{
-    let bytes = name.as_str().as_bytes();
-    bytes.len() <= LONGEST_NAME && has_short_parts(bytes)
 }
 
 fn is_apart(name: &FullName) -> bool

@@ -1,6 +1,5 @@
-use Rattle.std.proofs.Common.{◌≡◌, ◌≤◌, ◌<◌, ◌^◌, ◌∙◌, IsTrue, false, length, sym, arith, rules}
+use Rattle.std.proofs.Common.{◌≡◌, ◌≤◌, ◌<◌, ◌^◌, ◌∙◌, IsTrue, false, length, sym, rules}
 use Rattle.std.specs.Prelude.{◌≢◌}
-use Rattle.wr_base.specs.Paths.{is_path}
 use Rattle.winmd_rows.specs.Types.{is_short_name}
 use Rattle.wr_tools.specs.SmallEnum.{AreInt32, foundation, lower}
 use Rattle.wr_tools.proofs.SmallLemmas.{told}

@@ -2,7 +2,7 @@ use Rattle.std.proofs.Common.{◌==◌, rules}
 use Rattle.std.proofs.lemmas.Iterator.Search.{all_from_yields_List}
 use Rattle.std.proofs.lemmas.Iterator.Splits.{YieldsList-from_slice_split}
 use Rattle.winmd_rows.specs.Types.{is_short_part}
-use Rattle.wr_tools.proofs.small.has_short_parts.Goals as goal
+use Rattle.enum_image.proofs.limits.has_short_parts.Goals as goal
 
 pub returns : goal.returns
 returns c =
