@@ -1,17 +1,16 @@
 -- A blob that is written stands at its index, and stays.
-use Rattle.std.proofs.Common.{◌≡◌, ℕ, ◌+◌, ◌-◌, ◌^◌, ◌<◌, ◌≤◌, Bool, true, false, cond, ltb, List, [], ◌∷◌, ◌++◌, length, take, drop, Result, Ok, Err, refl, sym, ap, subst, ◌∙◌, arith, length-append, length-drop, append_assoc, inl, inr}
-use Rattle.std.specs.Prelude.{slice_index}
+use Rattle.std.proofs.Common.{◌≡◌, ℕ, ◌+◌, ◌^◌, ◌<◌, ◌≤◌, Bool, true, false, cond, ltb, List, [], ◌∷◌, ◌++◌, length, drop, Ok, Err, refl, ap, subst, ◌∙◌, arith, length-append, append_assoc, inl, inr}
 use Rattle.std.proofs.lemmas.Grind.{common_steps}
 use Rattle.std.proofs.lemmas.Bool.{cases_lt, lt-ltb, le-ltb}
 use Rattle.std.proofs.lemmas.List.{drop-append-le}
 use Rattle.std.proofs.Math.ListN.{drop_of_length-le}
 use Rattle.std.proofs.Math.Nat.{le_of_lt}
 use Rattle.std.proofs.Math.Seq.{drop-append_seam}
-use Rattle.byteorder.specs.Endian.{big_number, big_bytes}
+use Rattle.byteorder.specs.Endian.{big_bytes}
 use Rattle.byteorder.specs.Numbers.{big_from-append}
 use borrow.Author.Tests.{ltb-true}
-use Rattle.md_heaps.specs.Faults.{ImageFault, fault_at, BadLead}
-use Rattle.md_heaps.specs.Integers.{compressed_of, in_bytes, shortest, Spells}
+use Rattle.md_heaps.specs.Faults.{fault_at, BadLead}
+use Rattle.md_heaps.specs.Integers.{compressed_of, in_bytes, shortest}
 use Rattle.md_heaps.specs.Blobs.{BlobAt, blob_bytes}
 use Rattle.md_heaps.specs.Heaps.{StandsAt}
 use Rattle.md_heaps.proofs.HeapLaws.{stands_grows, stands_new}

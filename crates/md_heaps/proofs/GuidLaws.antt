@@ -1,5 +1,5 @@
 -- A GUID that is written stands at its index, and stays.
-use Rattle.std.proofs.Common.{◌≡◌, ℕ, ◌+◌, ◌-◌, ◌*◌, ◌/◌, ◌%◌, ◌<◌, ◌≤◌, List, [], ◌∷◌, ◌++◌, length, take, drop, refl, sym, ap, subst, ◌∙◌, arith}
+use Rattle.std.proofs.Common.{◌≡◌, ℕ, ◌+◌, ◌-◌, ◌*◌, ◌/◌, ◌%◌, List, ◌++◌, length, subst, arith}
 use Rattle.md_heaps.specs.Guids.{GuidAt}
 use Rattle.md_heaps.specs.Heaps.{StandsAt}
 use Rattle.md_heaps.proofs.HeapLaws.{stands_grows, stands_new}

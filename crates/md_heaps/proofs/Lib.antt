@@ -1,4 +1,5 @@
 pub mod BlobLaws
 pub mod GuidLaws
 pub mod HeapLaws
+pub mod IndexLaws
 pub mod TextLaws

@@ -1,6 +1,5 @@
 -- A text at an index is the bytes before the first zero.
-use Rattle.std.proofs.Common.{◌≡◌, ◌≢◌, ℕ, ◌+◌, ◌<◌, ◌≤◌, ◌==◌, Bool, true, false, cond, List, [], ◌∷◌, ◌++◌, length, get_or, take, drop, Option, Some, None, inl, inr, refl, sym, ap, subst, ◌∙◌, arith, All, length-append, eq-eqb, take-take}
-use Rattle.std.proofs.lemmas.Grind.{common_steps}
+use Rattle.std.proofs.Common.{◌≡◌, ℕ, ◌+◌, ◌<◌, ◌==◌, true, false, List, [], ◌∷◌, ◌++◌, length, get_or, take, drop, Some, None, inl, inr, sym, ap, subst, ◌∙◌, arith, length-append, eq-eqb, take-take}
 use Rattle.std.specs.List.{position_or_len}
 use Rattle.std.proofs.lemmas.List.{get_or-take, length-take, length-take-le, take_more}
 use Rattle.std.proofs.lemmas.List.Quantifiers.{position-Some}
@@ -9,9 +8,8 @@ use borrow.Author.Tests.{eqb-true}
 use Rattle.std.specs.List.{position}
 use Rattle.std.proofs.Math.ListN.{get_or-append}
 use Rattle.std.proofs.Math.Seq.{get_or-append_seam}
-use Rattle.std.proofs.lemmas.List.Sums.{position_or_len_is, passes_at_first, fails_before_first, split_at_first}
+use Rattle.std.proofs.lemmas.List.Sums.{position_or_len_is, fails_before_first}
 use Rattle.std.proofs.Math.Seq.{take-append_seam}
-use Rattle.md_heaps.specs.Heaps.{StandsAt}
 use Rattle.std.specs.Str.{IsUtf8}
 use Rattle.md_heaps.specs.Texts.{TextAt, NoTextAt, HasNoZero, text_bytes}
 use Rattle.md_heaps.proofs.HeapLaws.{stands_grows, stands_new}

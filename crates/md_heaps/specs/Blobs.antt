@@ -1,5 +1,6 @@
 -- `#Blob` (ECMA-335 II.24.2.4): blobs, each behind its length as a compressed integer.
 use Rattle.std.specs.Prelude.{◌≡◌, ℕ, ◌+◌, ◌<◌, List, [], ◌∷◌, ◌++◌, length, drop, Ok}
+use Rattle.std.specs.FinMap.{insert, empty}
 use Rattle.md_heaps.specs.Integers.{compressed_of, shortest}
 use Rattle.md_heaps.specs.Heaps.{Heap, StandsAt}
 
@@ -22,4 +23,4 @@ pub record EndsPast (heap : List ℕ) (at : ℕ) : Type 0 where
 
 -- a new heap: the empty blob at 0
 abbrev pub first_blob : Heap
-first_blob = record { bytes = 0 ∷ []; entries = ([], 0) ∷ [] }
+first_blob = record { bytes = 0 ∷ []; entries = insert empty [] 0 }

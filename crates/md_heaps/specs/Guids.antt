@@ -1,6 +1,7 @@
 -- `#GUID` (ECMA-335 II.24.2.5): GUIDs of 16 bytes each, counted from 1.
-use Rattle.std.specs.Prelude.{◌≡◌, ℕ, ◌+◌, ◌-◌, ◌*◌, ◌^◌, ◌<◌, ◌≤◌, List, [], length, take, drop, Result, Ok, Err, nat_lt, ◌&&◌, if◌then◌else◌}
+use Rattle.std.specs.Prelude.{◌≡◌, ℕ, ◌+◌, ◌-◌, ◌*◌, ◌^◌, ◌<◌, List, [], length, take, drop, Result, Ok, Err, nat_lt, ◌&&◌, if◌then◌else◌}
 use Rattle.byteorder.specs.Endian.{little_number, big_number}
+use Rattle.std.specs.FinMap.{empty}
 use Rattle.md_heaps.specs.Faults.{ImageFault, past_heap}
 use Rattle.md_heaps.specs.Heaps.{Heap, StandsAt}
 
@@ -22,4 +23,4 @@ guid_of heap index =
 
 -- a new heap
 abbrev pub no_guid : Heap
-no_guid = record { bytes = []; entries = [] }
+no_guid = record { bytes = []; entries = empty }

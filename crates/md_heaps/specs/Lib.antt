@@ -3,4 +3,5 @@ pub mod Integers
 pub mod Faults
 pub mod Guids
 pub mod Heaps
+pub mod Index
 pub mod Texts

@@ -1,6 +1,7 @@
 -- `#Strings` (ECMA-335 II.24.2.3): texts in UTF-8, each ended by a zero byte.
-use Rattle.std.specs.Prelude.{◌≡◌, ◌≢◌, ℕ, ◌<◌, ◌⊎◌, List, [], ◌∷◌, ◌++◌, length, drop, All}
+use Rattle.std.specs.Prelude.{◌≢◌, ℕ, ◌<◌, ◌⊎◌, List, [], ◌∷◌, ◌++◌, length, drop, All}
 use Rattle.std.specs.Str.{IsUtf8}
+use Rattle.std.specs.FinMap.{insert, empty}
 use Rattle.md_heaps.specs.Heaps.{Heap, StandsAt}
 
 -- no byte is zero
@@ -22,4 +23,4 @@ NoTextAt heap at = (at < length heap) × (HasNoZero (drop at heap) ⊎ (bytes : 
 
 -- a new heap: the empty text at 0
 abbrev pub first_text : Heap
-first_text = record { bytes = 0 ∷ []; entries = ([], 0) ∷ [] }
+first_text = record { bytes = 0 ∷ []; entries = insert empty [] 0 }

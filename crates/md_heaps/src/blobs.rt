@@ -22,10 +22,12 @@ pub struct BlobHeap {
 }
 
 impl Model for BlobHeap {
-    ghost use Rattle.md_heaps.specs.Heaps.{Heap, EachStands};
+    ghost use Rattle.md_heaps.specs.Heaps.{Heap, heap_code, EachStands};
     ghost use Rattle.md_heaps.specs.Blobs.{BlobAt};
 
     ghost Value = { Heap };
+
+    ghost coded = { heap_code };
 
     ghost view = { λ h. h.store };
 

@@ -20,10 +20,12 @@ pub struct GuidHeap {
 
 impl Model for GuidHeap {
     ghost use Rattle.std.specs.Prelude.{◌≡◌, ◌%◌, length};
-    ghost use Rattle.md_heaps.specs.Heaps.{Heap, EachStands};
+    ghost use Rattle.md_heaps.specs.Heaps.{Heap, heap_code, EachStands};
     ghost use Rattle.md_heaps.specs.Guids.{GuidAt};
 
     ghost Value = { Heap };
+
+    ghost coded = { heap_code };
 
     ghost view = { λ h. h.store };
 

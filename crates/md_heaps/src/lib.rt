@@ -5,8 +5,10 @@
 #![tactic(auto)]
 
 mod blobs;
+mod content;
 mod faults;
 mod guids;
+mod index;
 mod integers;
 mod parts;
 mod store;

@@ -1,8 +1,9 @@
-//! The bytes of a heap, with an index from each entry to its place.
+//! The bytes of a heap, with the index of its entries.
 ghost use Rattle.std.specs.Prelude.{◌≡◌, ◌+◌, ◌<◌, ◌≤◌, ◌^◌, ◌-◌, ◌↔◌, ◌++◌, [], None, length, OnOk, OnErr, IfOk, IfErr};
+ghost use Rattle.std.specs.FinMap.{empty};
 ghost use Rattle.md_heaps.specs.Heaps.{Heap, index_of, with_entry};
 
-use indexmap::IndexMap;
+use crate::index::Index;
 use ranked::{Memory, Stop};
 use std::alloc::Global;
 use std::marker::Model;
@@ -15,20 +16,22 @@ pub struct HeapFull {
 
 const MOST_BYTES: u64 = 0x1FFF_FFFF;
 
-/// The bytes of a heap and an index from content to the number by which tables name it.
+/// The bytes of a heap, and the index from content to the number by which tables name it.
 #[derive(Drop)]
 pub struct Store {
     bytes: Vec<u8>,
-    indices: IndexMap<Vec<u8>, u32>,
+    index: Index,
 }
 
 impl Model for Store {
-    ghost use Rattle.std.specs.Prelude.{◌<◌, ◌^◌, length, map};
-    ghost use Rattle.md_heaps.specs.Heaps.{Heap};
+    ghost use Rattle.std.specs.Prelude.{◌<◌, ◌^◌, length};
+    ghost use Rattle.md_heaps.specs.Heaps.{Heap, heap_code};
 
     ghost Value = { Heap };
 
-    ghost view = { λ s. record { bytes = s.bytes.items; entries = map (λ e. (e.0.items, e.1)) s.indices.entries } };
+    ghost coded = { heap_code };
+
+    ghost view = { λ s. record { bytes = s.bytes.items; entries = s.index } };
 
     ghost invariant = { λ s. length s.bytes.items < 2 ^ 29 };
 }
@@ -37,11 +40,11 @@ impl Store {
     /// A store without bytes.
     pub(crate) fn new(alloc: Global) -> Store
         ensures bytes { result.bytes ≡ [] }
-        ensures entries { result.entries ≡ [] }
+        ensures entries { result.entries ≡ empty }
     {
         Store {
             bytes: Vec::new(alloc),
-            indices: IndexMap::new(alloc),
+            index: Index::new(alloc),
         }
     }
 
@@ -57,7 +60,7 @@ impl Store {
     pub(crate) fn find(&self, content: &[u8]) -> Option<u32>
         ensures { result ≡ index_of self.now content.now }
     {
-        self.indices.get(content).copied()
+        self.index.find(content)
     }
 
     /// The length so far, unless so many more bytes would be too many.
@@ -91,8 +94,7 @@ impl Store {
         let alloc = *self.bytes.allocator();
         self.bytes
             .reserve(before.len() + content.len() + behind.len())?;
-        let key = Vec::from_slice(alloc, content)?;
-        self.indices.insert(key, index)?;
+        self.index.add(Vec::from_slice(alloc, content)?, index)?;
         self.bytes.extend_from_slice(before).unwrap();
         self.bytes.extend_from_slice(content).unwrap();
         self.bytes.extend_from_slice(behind).unwrap();

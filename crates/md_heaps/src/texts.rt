@@ -21,10 +21,12 @@ pub struct TextHeap {
 }
 
 impl Model for TextHeap {
-    ghost use Rattle.md_heaps.specs.Heaps.{Heap, EachStands};
+    ghost use Rattle.md_heaps.specs.Heaps.{Heap, heap_code, EachStands};
     ghost use Rattle.md_heaps.specs.Texts.{TextAt};
 
     ghost Value = { Heap };
+
+    ghost coded = { heap_code };
 
     ghost view = { λ h. h.store };
 
