@@ -28,17 +28,26 @@ built() {
     (cd "$work/crates/$built_name" && rt run -- "$@") > "$work/built" 2>&1 || { cat "$work/built" >&2; exit 1; }
 }
 
-# timed NAME N 'FIRST' 'SECOND': runs a built program at N and at 2N, five times each. It prints its number and two times in
-# microseconds; what is shown is the least of each, and how many times as long twice the number takes.
+# timed NAME N 'FIRST' 'SECOND': runs a built program at N and right after that at 2N, fifteen times over. It prints its number and
+# two times in microseconds; what is shown is the least of each, and how many times as long twice the number takes in such a
+# pair of runs, as the median of the fifteen.
 timed() {
-    for number in "$2" $((2 * $2)); do
-        for _ in 1 2 3 4 5; do "$work/crates/$1/out/$1" "$number"; done
+    for _ in 1 2 3 4 5 6 7 8 9 10 11 12 13 14 15; do
+        for number in "$2" $((2 * $2)); do "$work/crates/$1/out/$1" "$number"; done
     done | awk -v first="$3" -v second="$4" '
-        !($1 in one) { numbers[++kinds] = $1; one[$1] = $2; other[$1] = $3 }
-        $2 < one[$1] { one[$1] = $2 }
-        $3 < other[$1] { other[$1] = $3 }
+        # the median of the ratios, which are put in order
+        function median(ratios,    i, j, one) {
+            for (i = 2; i <= pairs; i++)
+                for (j = i; j > 1 && ratios[j] < ratios[j - 1]; j--) { one = ratios[j]; ratios[j] = ratios[j - 1]; ratios[j - 1] = one }
+            return ratios[int((pairs + 1) / 2)]
+        }
+        !($1 in least_first) { numbers[++kinds] = $1; least_first[$1] = $2; least_second[$1] = $3 }
+        $2 < least_first[$1] { least_first[$1] = $2 }
+        $3 < least_second[$1] { least_second[$1] = $3 }
+        NR % 2 == 1 { before_first = $2; before_second = $3 }
+        NR % 2 == 0 { firsts[++pairs] = $2 / before_first; seconds[pairs] = $3 / before_second }
         END {
-            for (i = 1; i <= kinds; i++) printf "%d: %s %.3f s, %s %.3f s\n", numbers[i], first, one[numbers[i]] / 1e6, second, other[numbers[i]] / 1e6
-            printf "twice as many take %.2f and %.2f times as long\n", one[numbers[2]] / one[numbers[1]], other[numbers[2]] / other[numbers[1]]
+            for (i = 1; i <= kinds; i++) printf "%d: %s %.3f s, %s %.3f s\n", numbers[i], first, least_first[numbers[i]] / 1e6, second, least_second[numbers[i]] / 1e6
+            printf "twice as many take %.2f and %.2f times as long\n", median(firsts), median(seconds)
         }'
 }

@@ -4,8 +4,8 @@
 #
 #   bench/tables.sh [N]      at N texts, which is 500000 where none is given, and at 2N
 #
-# At 500000 each time is to be below 1 s, and at 2N below 2.3 times that at N, as far as the machine itself is linear: a walk through a table of the
-# same size is measured beside it.
+# At 500000 each time is to be below 1 s, and at 2N below 2.3 times that at N. A walk through a table of the size of an index
+# is measured beside it: it shows what memory itself adds.
 set -eu
 count=${1:-500000}
 . "$(dirname "$0")/programs.sh"
@@ -116,7 +116,7 @@ fn main(rt: HostRuntime) -> Result<(), Fail> {
 PROGRAM
 
 built heap_bench 1
-echo 'Texts interned, and the same again, the least of five runs, in seconds of processor time:'
+echo 'Texts interned, and the same again, the least of fifteen runs, in seconds of processor time:'
 timed heap_bench "$count" interned again
 echo
 built walk_bench 1
