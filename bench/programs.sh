@@ -28,11 +28,11 @@ built() {
     (cd "$work/crates/$built_name" && rt run -- "$@") > "$work/built" 2>&1 || { cat "$work/built" >&2; exit 1; }
 }
 
-# timed NAME N 'FIRST' 'SECOND': runs a built program at N and right after that at 2N, fifteen times over. It prints its number and
-# two times in microseconds; what is shown is the least of each, and how many times as long twice the number takes in such a
-# pair of runs, as the median of the fifteen.
+# timed NAME N 'FIRST' 'SECOND': runs a built program at N and right after that at 2N, 61 times over, since other work on a
+# machine disturbs single pairs. It prints its number and two times in microseconds; what is shown is the least of each, and how
+# many times as long twice the number takes in such a pair of runs, as the median of the 61.
 timed() {
-    for _ in 1 2 3 4 5 6 7 8 9 10 11 12 13 14 15; do
+    for _ in $(seq 61); do
         for number in "$2" $((2 * $2)); do "$work/crates/$1/out/$1" "$number"; done
     done | awk -v first="$3" -v second="$4" '
         # the median of the ratios, which are put in order

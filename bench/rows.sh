@@ -53,5 +53,5 @@ fn main(rt: HostRuntime) -> Result<(), Fail> {
 PROGRAM
 
 built rows_bench 1
-echo 'Rows of Param, the least of fifteen runs, in seconds of processor time:'
+echo 'Rows of Param, the least of 61 runs, in seconds of processor time:'
 timed rows_bench "$count" written read

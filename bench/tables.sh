@@ -116,7 +116,7 @@ fn main(rt: HostRuntime) -> Result<(), Fail> {
 PROGRAM
 
 built heap_bench 1
-echo 'Texts interned, and the same again, the least of fifteen runs, in seconds of processor time:'
+echo 'Texts interned, and the same again, the least of 61 runs, in seconds of processor time:'
 timed heap_bench "$count" interned again
 echo
 built walk_bench 1
