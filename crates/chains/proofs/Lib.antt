@@ -1,0 +1,7 @@
+mod Examples
+pub mod Members
+pub mod SearchLaws
+pub mod Merges
+pub mod Marking
+pub mod Steps
+pub mod ClosureLaws
