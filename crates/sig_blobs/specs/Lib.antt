@@ -1,0 +1,9 @@
+pub mod Attributes
+pub mod Canonical
+pub mod Elements
+pub mod Reading
+pub mod Signatures
+pub mod Templates
+pub mod Trees
+pub mod Uses
+pub mod Writing
