@@ -1,6 +1,6 @@
 // Which calls of a fake fail.
 ghost use Rattle.std.specs.Prelude.{◌≡◌, ◌+◌, ◌^◌, ◌-◌, ◌↔◌, ◌≤◌, IsTrue, min};
-ghost use Rattle.std.specs.Bool.{OnTrue};
+ghost use Rattle.std.specs.Bool.{OnFalse, OnTrue};
 ghost use Rattle.wr_outside.specs.Cause.{Rose};
 
 /// Counts calls from 1. Those whose numbers are listed fail, each once.
@@ -34,6 +34,8 @@ impl Failures {
         ensures listed { self.new.listed ≡ self.old.listed }
         ensures later { self.old.faults ≤ self.new.faults }
         ensures rose { OnTrue result (Rose self.old.faults self.new.faults) }
+        ensures rises { OnTrue result (self.new.faults ≡ min (self.old.faults + 1) (2 ^ 64 - 1)) }
+        ensures stays { OnFalse result (self.new.faults ≡ self.old.faults) }
     {
         let Some(number) = self.calls.checked_add(1) else {
             return false;
