@@ -4,3 +4,7 @@ pub mod TwiceLemmas
 pub mod SetLemmas
 pub mod PlaceLemmas
 pub mod IdLemmas
+pub mod PartLaws
+pub mod WordLaws
+pub mod TreeLaws
+pub mod OrderLaws

@@ -68,7 +68,7 @@ module _ {X : Type 0} (key : X → List ℕ) where
       below_both o (key x) (key (get_or (x ∷ xs) k d)) _ refl l
       (sorted_far (λ a b. is_lt (text_cmp (key a) (key b))) (ranks_by nat_list_cmp_total key) (x ∷ xs) s 0 k d (omega arith) h)
 
-  tail_rises : (x : X) (xs : List X) (n : ℕ) → Rises (x ∷ xs) (n + 1) → Rises xs n
+  pub tail_rises : (x : X) (xs : List X) (n : ℕ) → Rises (x ∷ xs) (n + 1) → Rises xs n
   tail_rises x xs n r k d high =
       subst (λ z. text_cmp (key z) (key (get_or xs (k + 1) d)) ≡ Less) (get_tail x xs k d)
       (subst (λ z. text_cmp (key (get_or (x ∷ xs) (k + 1) d)) (key z) ≡ Less) (get_tail x xs (k + 1) d) (r (k + 1) d (omega (arith, high))))
@@ -142,7 +142,7 @@ least_twice old new seen i name e moved is sorted repeat at =
           (at_most_once name_of i new e (omega (arith, here.inside)) sorted here.rises other (subst (λ n. text_cmp other n ≡ Less) at below));
     }
 
-name_of-normal : (d : Declaration) → name_of (normal d) ≡ name_of d
+pub name_of-normal : (d : Declaration) → name_of (normal d) ≡ name_of d
 name_of-normal (Enum name version flags cases) = refl
 name_of-normal (Struct name version fields) = refl
 name_of-normal (Delegate name version id invoke) = refl

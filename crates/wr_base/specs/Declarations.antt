@@ -1,5 +1,5 @@
 -- Parts of a declaration.
-use Rattle.std.specs.Prelude.{◌≡◌, ◌<◌, ◌≤◌, ◌+◌, ◌^◌, ℕ, List, length, count_by, slice_index_or}
+use Rattle.std.specs.Prelude.{◌≡◌, ◌<◌, ◌≤◌, ◌+◌, ◌^◌, ℕ, List, [], ◌∷◌, Option, Some, None, if◌then◌else◌, length, count_by, slice_index_or}
 use Rattle.std.specs.List.{AllAdjacentBelow}
 use Rattle.std.specs.Str.{bytes_eq}
 use Rattle.std.specs.Ordering.{nat_cmp}
@@ -24,6 +24,11 @@ Precedes a b = slice_cmp nat_cmp (name_of a) (name_of b) ≡ Less
 pub record IsInOrder (types : List Declaration) : Type 0 where
   pub rises : AllAdjacentBelow Precedes types (length types)
   pub short : length types < 2 ^ 32
+
+-- the declaration of this full name: the first one, where there are several
+abbrev pub declared_as : List Declaration → List ℕ → Option Declaration
+declared_as [] name = None
+declared_as (d ∷ ds) name = if bytes_eq (name_of d) name then Some d else declared_as ds name
 
 -- how often a full name stands in a list
 abbrev pub times : List Declaration → List ℕ → ℕ

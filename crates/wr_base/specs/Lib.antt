@@ -1,7 +1,11 @@
 pub mod Codes
 pub mod Declarations
 pub mod Paths
+pub mod Parts
 pub mod Uses
+pub mod Words
+pub mod Trees
+pub mod FromTrees
 pub mod Refusals
 pub mod Sets
 pub mod Normal

@@ -22,3 +22,13 @@ parts_of bytes = slice_split (λ b. b == 46) bytes
 -- two or more identifiers joined by dots
 abbrev pub is_path : List ℕ → Bool
 is_path bytes = nat_le 2 (length (parts_of bytes)) && list_all is_identifier (parts_of bytes)
+
+-- ---- how long names may be
+
+-- at most 255 bytes
+abbrev pub is_short_part : List ℕ → Bool
+is_short_part part = nat_le (length part) 255
+
+-- at most 511 bytes, and at most 255 in each part
+abbrev pub is_short_name : List ℕ → Bool
+is_short_name full = nat_le (length full) 511 && list_all is_short_part (parts_of full)

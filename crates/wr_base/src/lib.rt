@@ -17,7 +17,7 @@ pub use code::{Code, Refusal};
 pub use declaration::{
     Case, Cases, Declaration, Field, Fields, FullNames, Member, Members, Param, Params, Signature,
 };
-pub use full_name::{FullName, tests_identifier};
+pub use full_name::{FullName, tests_identifier, tests_short_name, tests_short_part};
 pub use ids::{Ids, UseId};
 pub use listed::Listed;
 pub use places::{DeclPlaces, PlaceList, PlacedTypes, Places};

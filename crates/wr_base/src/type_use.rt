@@ -1,5 +1,6 @@
 ghost use Rattle.std.specs.Prelude.{◌≡◌, ◌++◌, ◌∷◌, [], if◌then◌else◌, ◌↔◌, IsTrue, IfOk, OnOk, string_bytes};
 ghost use Rattle.wr_base.specs.Uses.{text_of, word_of};
+ghost use Rattle.wr_base.specs.Words.{base_of_word};
 
 use crate::FullName;
 use sqlite_items::Items;
@@ -53,6 +54,31 @@ fn base_word(base: Base) -> &'static str
         Base::Text => "String",
         Base::Guid => "Guid",
         Base::Object => "Object",
+    }
+}
+
+impl Base {
+    /// The fundamental type of a word, `Char16` being a second word of `Char`; none of any other text.
+    #[tactic(auto, unfolding(crate::specs::Words::base_of_word))]
+    pub fn from_word(word: &str) -> Option<Base>
+        ensures { result ≡ base_of_word word.now }
+    {
+        match word {
+            "Boolean" => Some(Base::Boolean),
+            "Char" => Some(Base::Char),
+            "Char16" => Some(Base::Char),
+            "UInt8" => Some(Base::U8),
+            "Int16" => Some(Base::I16),
+            "UInt16" => Some(Base::U16),
+            "Int32" => Some(Base::I32),
+            "UInt32" => Some(Base::U32),
+            "Int64" => Some(Base::I64),
+            "UInt64" => Some(Base::U64),
+            "String" => Some(Base::Text),
+            "Guid" => Some(Base::Guid),
+            "Object" => Some(Base::Object),
+            _ => None,
+        }
     }
 }
 

@@ -1,10 +1,10 @@
-ghost use Rattle.std.specs.Prelude.{◌≡◌, ◌<◌, ◌≤◌, ◌+◌, ◌^◌, List, ℕ, length, map, slice_get, Some, Contains, IfOk, IfErr, IfSome, IfNone, OnOk, OnErr, vec_len};
+ghost use Rattle.std.specs.Prelude.{◌≡◌, ◌<◌, ◌≤◌, ◌+◌, ◌^◌, List, ℕ, length, map, slice_get, Some, None, Contains, IfOk, IfErr, IfSome, IfNone, OnOk, OnErr, vec_len};
 ghost use Rattle.std.specs.Option.{option_copied};
 ghost use Rattle.std.specs.Ordering.{nat_cmp};
 ghost use Rattle.std.specs.List.{AllAdjacentBelow};
 ghost use Rattle.std.specs.List.Sorted.{IsPermutation, IsSortedByKey};
 ghost use Rattle.std.specs.Cmp.Lexicographic.{slice_cmp};
-ghost use Rattle.wr_base.specs.Declarations.{name_of, Precedes, IsInOrder, FirstRepeat, IsOnce};
+ghost use Rattle.wr_base.specs.Declarations.{declared_as, name_of, Precedes, IsInOrder, FirstRepeat, IsOnce};
 ghost use Rattle.wr_base.specs.Sets.{set_by};
 ghost use Rattle.wr_base.specs.Uses.{text_of};
 ghost use Rattle.wr_base.specs.Normal.{normal, names_in_order};
@@ -135,6 +135,8 @@ impl Types {
     pub fn from_list(alloc: Global, list: Vec<Declaration>) -> Result<Types, Stop<FullName>>
         requires { length list.items < 2 ^ 32 }
         ensures ok { IfOk result (λ types. IsPermutation (map normal list.items) types) }
+        // Declarations in order stay where they are.
+        ensures exact { IfOk result (λ types. IsInOrder list.items → types ≡ map normal list.items) }
         ensures order { IfOk result IsInOrder }
         ensures once { OnOk result (IsOnce list.items) }
         ensures refused { IfErr result (IsRefusalOf list.items) }
@@ -166,7 +168,8 @@ impl Types {
     /// The declaration at a place, from 0.
     pub fn at(&self, i: u32) -> &Declaration
         requires { i < length self.now }
-        ensures { slice_get self.now i ≡ Some result.now }
+        ensures value { slice_get self.now i ≡ Some result.now }
+        ensures order { IsInOrder self.now }
     {
         &self.items[i as usize]
     }
@@ -174,7 +177,11 @@ impl Types {
     /// The place of the declaration of this full name.
     pub fn find(&self, name: &FullName) -> Option<u32>
         ensures found { IfSome result (λ i. slice_get (map name_of self.now) i ≡ Some name.now) }
+        // At the place stands the one declaration of this full name.
+        ensures place { IfSome result (λ i. declared_as self.now name.now ≡ slice_get self.now i) }
         ensures absent { IfNone result (¬ (Contains (map name_of self.now) name.now)) }
+        ensures none { IfNone result (declared_as self.now name.now ≡ None) }
+        ensures order { IsInOrder self.now }
     {
         match self
             .items

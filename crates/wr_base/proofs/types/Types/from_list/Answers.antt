@@ -7,6 +7,7 @@ use Rattle.wr_base.specs.Declarations.{name_of, Precedes}
 use Rattle.wr_base.specs.Normal.{normal}
 use Rattle.wr_base.specs.declared.declaration.Declaration.{Declaration}
 use Rattle.wr_base.proofs.TwiceLemmas.{least_twice, least_before, once_before}
+use Rattle.wr_base.proofs.OrderLaws.{stay_in_order}
 use Rattle.wr_base.proofs.types.Types.from_list.Goals as goal
 
 pub invariant_of-result : goal.invariant_of-result
@@ -20,6 +21,14 @@ returns-in-None-clause-order c = record {
   rises = search rules;
   short = omega (arith, length_permutation _ _ c.sort_by_name.ensures.permutation, ap length c.in-Ok.ensures, length-map c.args.list.items normal);
 }
+
+pub returns-in-None-clause-exact : goal.returns-in-None-clause-exact
+returns-in-None-clause-exact c =
+    let sorted : List Declaration = c.sort_by_name.new.list.items in
+    let moved : IsPermutation (map normal c.args.list.items) sorted =
+    subst (λ (xs : List Declaration). IsPermutation xs sorted) c.in-Ok.ensures c.sort_by_name.ensures.permutation in
+    let rises : AllAdjacentBelow Precedes sorted (length sorted) = search rules in
+    stay_in_order c.args.list.items sorted moved rises
 
 pub returns-in-None-clause-once : goal.returns-in-None-clause-once
 returns-in-None-clause-once c =
