@@ -1,3 +1,5 @@
+//! Codes of refusals.
+
 ghost use Rattle.std.specs.Prelude.{◌≡◌};
 
 use ranked::Rank;
@@ -68,59 +70,7 @@ impl Rank for Code {
     ghost rank = { rank_of };
 
     fn rank(&self) -> u16 {
-        match self {
-            Code::NotUtf8 => 0,
-            Code::BadChar => 1,
-            Code::OpenComment => 2,
-            Code::OpenText => 3,
-            Code::WideNumber => 4,
-            Code::LongName => 5,
-            Code::Syntax => 6,
-            Code::FloatType => 7,
-            Code::UnknownAttribute => 8,
-            Code::TooDeep => 9,
-            Code::BadAttribute => 10,
-            Code::ConstructorName => 11,
-            Code::DoubleConstructor => 12,
-            Code::DuplicateName => 13,
-            Code::UnknownType => 14,
-            Code::WrongArity => 15,
-            Code::SynthesisClash => 16,
-            Code::Unresolved => 17,
-            Code::WrongKind => 18,
-            Code::NotClosed => 19,
-            Code::DefaultMissing => 20,
-            Code::EnumRepeat => 21,
-            Code::FieldRepeat => 22,
-            Code::ParamRepeat => 23,
-            Code::EnumRange => 24,
-            Code::StructEmpty => 25,
-            Code::FieldType => 26,
-            Code::StructCycle => 27,
-            Code::UseKind => 28,
-            Code::ExclusiveUse => 29,
-            Code::ReferenceArgument => 30,
-            Code::EventType => 31,
-            Code::EventDelegate => 32,
-            Code::OverloadArity => 33,
-            Code::OverloadKind => 34,
-            Code::MemberCase => 35,
-            Code::AccessorClash => 36,
-            Code::InterfaceWanted => 37,
-            Code::RequiresCycle => 38,
-            Code::MemberClash => 39,
-            Code::StaticMembers => 40,
-            Code::ConstructorArity => 41,
-            Code::FactoryShape => 42,
-            Code::NamespaceClash => 43,
-            Code::DuplicateId => 44,
-            Code::ManyTypes => 45,
-            Code::ManyMembers => 46,
-            Code::ManyParams => 47,
-            Code::LongFullName => 48,
-            Code::ManyNames => 49,
-            Code::ManyUses => 50,
-        }
+        *self as u16
     }
 }
 

@@ -1,8 +1,9 @@
+//! Declared types, of five kinds, and their parts.
+
 ghost use Rattle.std.specs.Prelude.{◌≡◌};
 ghost use Rattle.wr_base.specs.Declarations.{name_of};
 
-use crate::{FullName, Listed, Name, TypeUse, Uses, copy_uses};
-use std::alloc::AllocError;
+use crate::{FullName, Listed, Name, TypeUse, Uses};
 
 /// A parameter; `out` is MIDL's `out`.
 #[derive(Debug, Drop)]
@@ -14,29 +15,6 @@ pub struct Param {
 
 /// A method's parameters, in order.
 pub type Params = Listed<Param>;
-
-impl Clone for Param {
-    ghost is_clone = { λ a b. b ≡ a };
-
-    fn clone(&self) -> Result<Param, AllocError> {
-        Ok(Param {
-            name: self.name.clone()?,
-            out: self.out,
-            ty: self.ty.clone()?,
-        })
-    }
-}
-
-impl Clone for Signature {
-    ghost is_clone = { λ a b. b ≡ a };
-
-    fn clone(&self) -> Result<Signature, AllocError> {
-        Ok(Signature {
-            params: self.params.clone()?,
-            result: self.result.clone()?,
-        })
-    }
-}
 
 /// Parameters and a result, which a method without one lacks.
 #[derive(Debug, Drop)]
@@ -141,125 +119,6 @@ impl Declaration {
             Declaration::Delegate { name, .. } => name,
             Declaration::Interface { name, .. } => name,
             Declaration::Class { name, .. } => name,
-        }
-    }
-}
-
-impl Clone for Member {
-    ghost is_clone = { λ a b. b ≡ a };
-
-    fn clone(&self) -> Result<Member, AllocError> {
-        match self {
-            Member::Method { name, abi, sig } => Ok(Member::Method {
-                name: name.clone()?,
-                abi: abi.clone()?,
-                sig: sig.clone()?,
-            }),
-            Member::Property { name, ty, put } => Ok(Member::Property {
-                name: name.clone()?,
-                ty: ty.clone()?,
-                put: *put,
-            }),
-            Member::Event { name, ty } => Ok(Member::Event {
-                name: name.clone()?,
-                ty: ty.clone()?,
-            }),
-        }
-    }
-}
-
-impl Clone for Case {
-    ghost is_clone = { λ a b. b ≡ a };
-
-    fn clone(&self) -> Result<Case, AllocError> {
-        Ok(Case {
-            name: self.name.clone()?,
-            value: self.value,
-        })
-    }
-}
-
-impl Clone for Field {
-    ghost is_clone = { λ a b. b ≡ a };
-
-    fn clone(&self) -> Result<Field, AllocError> {
-        Ok(Field {
-            name: self.name.clone()?,
-            ty: self.ty.clone()?,
-        })
-    }
-}
-
-impl Clone for Declaration {
-    ghost is_clone = { λ a b. b ≡ a };
-
-    fn clone(&self) -> Result<Declaration, AllocError> {
-        match self {
-            Declaration::Enum {
-                name,
-                version,
-                flags,
-                cases,
-            } => Ok(Declaration::Enum {
-                name: name.clone()?,
-                version: *version,
-                flags: *flags,
-                cases: cases.clone()?,
-            }),
-            Declaration::Struct {
-                name,
-                version,
-                fields,
-            } => Ok(Declaration::Struct {
-                name: name.clone()?,
-                version: *version,
-                fields: fields.clone()?,
-            }),
-            Declaration::Delegate {
-                name,
-                version,
-                id,
-                invoke,
-            } => Ok(Declaration::Delegate {
-                name: name.clone()?,
-                version: *version,
-                id: *id,
-                invoke: invoke.clone()?,
-            }),
-            Declaration::Interface {
-                name,
-                version,
-                id,
-                owner,
-                requires_,
-                members,
-            } => Ok(Declaration::Interface {
-                name: name.clone()?,
-                version: *version,
-                id: *id,
-                owner: owner.clone()?,
-                requires_: copy_uses(name.allocator(), requires_)?,
-                members: members.clone()?,
-            }),
-            Declaration::Class {
-                name,
-                version,
-                fixed,
-                default,
-                has,
-                direct,
-                factories,
-                statics,
-            } => Ok(Declaration::Class {
-                name: name.clone()?,
-                version: *version,
-                fixed: *fixed,
-                default: default.clone()?,
-                has: copy_uses(name.allocator(), has)?,
-                direct: *direct,
-                factories: factories.clone()?,
-                statics: statics.clone()?,
-            }),
         }
     }
 }

@@ -1,3 +1,5 @@
+//! Full names: two or more identifiers joined by dots.
+
 ghost use Rattle.std.specs.Prelude.{◌≡◌, ◌∷◌, ◌++◌, ◌↔◌, ◌==◌, IsTrue, IfOk, IsSome, IfSome, length, nat_le, string_bytes};
 ghost use Rattle.std.specs.List.{list_all};
 ghost use Rattle.std.proofs.Common.{rules};

@@ -1,3 +1,5 @@
+//! Ids by the texts of what has them.
+
 ghost use Rattle.std.specs.Prelude.{◌≡◌, map, Contains, IfOk, IfSome, IfNone};
 ghost use Rattle.wr_base.specs.Sets.{set_by};
 

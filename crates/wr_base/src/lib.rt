@@ -2,13 +2,17 @@
 //! order, the codes of refusals, places, and ids by text.
 #![tactic(auto)]
 
+mod class_lists;
 mod code;
+mod copies;
 mod declaration;
 mod full_name;
 mod ids;
+mod laws;
 mod listed;
 mod places;
 mod same;
+mod same_declaration;
 mod sets;
 mod type_use;
 mod types;
@@ -19,6 +23,7 @@ pub use declaration::{
 };
 pub use full_name::{FullName, tests_identifier, tests_short_name, tests_short_part};
 pub use ids::{Ids, UseId};
+pub use laws::{told_by_trees, words_of_bases};
 pub use listed::Listed;
 pub use places::{DeclPlaces, PlaceList, PlacedTypes, Places};
 pub use ranked::{Memory, Name, Place, Rank, Stop};

@@ -1,3 +1,5 @@
+//! Where declarations and their parts stand.
+
 ghost use Rattle.std.specs.Prelude.{◌≡◌, ◌+◌, ◌<◌, ◌^◌, ◌↔◌, IsTrue, IfOk};
 ghost use Rattle.wr_base.specs.Places.{numbered, plain_from, total, part_count, placed};
 

@@ -1,8 +1,10 @@
+//! Tests whether two values are one.
+
 ghost use Rattle.std.specs.Prelude.{◌≡◌, ◌↔◌, IsTrue};
 
 use crate::{
-    Case, DeclPlaces, Declaration, Field, FullName, Ids, Listed, Member, Name, Param, Place,
-    PlacedTypes, Signature, TypeUse, Types, UseId,
+    Case, DeclPlaces, Field, FullName, Listed, Name, Param, Place, PlacedTypes, Signature, TypeUse,
+    UseId,
 };
 use sqlite_items::Items;
 
@@ -89,135 +91,6 @@ impl Same for Case {
 impl Same for Field {
     fn same(&self, other: &Field) -> bool {
         self.name.same(&other.name) && self.ty.same(&other.ty)
-    }
-}
-
-impl Same for Member {
-    fn same(&self, other: &Member) -> bool {
-        match (self, other) {
-            (
-                Member::Method {
-                    name: a,
-                    abi: c,
-                    sig: e,
-                },
-                Member::Method {
-                    name: b,
-                    abi: d,
-                    sig: f,
-                },
-            ) => a.same(b) && c.same(d) && e.same(f),
-            (
-                Member::Property {
-                    name: a,
-                    ty: c,
-                    put: e,
-                },
-                Member::Property {
-                    name: b,
-                    ty: d,
-                    put: f,
-                },
-            ) => a.same(b) && c.same(d) && *e == *f,
-            (Member::Event { name: a, ty: c }, Member::Event { name: b, ty: d }) => a.same(b)
-                && c.same(d),
-            _ => false,
-        }
-    }
-}
-
-impl Same for Declaration {
-    fn same(&self, other: &Declaration) -> bool {
-        match (self, other) {
-            (
-                Declaration::Enum {
-                    name: a,
-                    version: b,
-                    flags: c,
-                    cases: d,
-                },
-                Declaration::Enum {
-                    name: e,
-                    version: f,
-                    flags: g,
-                    cases: h,
-                },
-            ) => { a.same(e) && *b == *f && *c == *g && d.same(h) }
-            (
-                Declaration::Struct {
-                    name: a,
-                    version: b,
-                    fields: c,
-                },
-                Declaration::Struct {
-                    name: d,
-                    version: e,
-                    fields: f,
-                },
-            ) => { a.same(d) && *b == *e && c.same(f) }
-            (
-                Declaration::Delegate {
-                    name: a,
-                    version: b,
-                    id: c,
-                    invoke: d,
-                },
-                Declaration::Delegate {
-                    name: e,
-                    version: f,
-                    id: g,
-                    invoke: h,
-                },
-            ) => { a.same(e) && *b == *f && *c == *g && d.same(h) }
-            (
-                Declaration::Interface {
-                    name: a,
-                    version: b,
-                    id: c,
-                    owner: d,
-                    requires_: e,
-                    members: f,
-                },
-                Declaration::Interface {
-                    name: g,
-                    version: h,
-                    id: i,
-                    owner: j,
-                    requires_: k,
-                    members: l,
-                },
-            ) => a.same(g) && *b == *h && *c == *i && d.same(j) && e.same(k) && f.same(l),
-            (
-                Declaration::Class {
-                    name: a,
-                    version: b,
-                    fixed: c,
-                    default: d,
-                    has: e,
-                    direct: f,
-                    factories: g,
-                    statics: h,
-                },
-                Declaration::Class {
-                    name: i,
-                    version: j,
-                    fixed: k,
-                    default: l,
-                    has: m,
-                    direct: n,
-                    factories: o,
-                    statics: p,
-                },
-            ) => a.same(i)
-                && *b == *j
-                && *c == *k
-                && d.same(l)
-                && e.same(m)
-                && *f == *n
-                && g.same(o)
-                && h.same(p),
-            _ => false,
-        }
     }
 }
 

@@ -1,3 +1,5 @@
+//! Lists in the order of a text, each text once.
+
 ghost use Rattle.std.specs.Prelude.{◌≡◌, ◌++◌, IfOk, OnOk, List, ℕ, map as list_map, string_bytes};
 ghost use Rattle.std.specs.Ordering.{nat_cmp};
 ghost use Rattle.std.specs.Cmp.Lexicographic.{slice_cmp};
@@ -5,9 +7,10 @@ ghost use Rattle.std.specs.FinMap as map;
 ghost use Rattle.std.specs.BTreeMap.{insert_entry};
 ghost use Rattle.std.specs.String.{string_cmp};
 ghost use Rattle.wr_base.specs.Sets.{keyed, set_by, by_bytes};
+ghost use Rattle.wr_base.specs.Normal.{names_in_order};
 ghost use Rattle.wr_base.specs.Uses.{text_of};
 
-use crate::{FullName, TypeUse, UseId};
+use crate::{FullName, FullNames, Listed, TypeUse, UseId, Uses};
 use sqlite_items::Items;
 use std::alloc::{AllocError, Global};
 use std::collections::BTreeMap;
@@ -91,4 +94,19 @@ pub fn in_order<T: Keyed + Drop>(alloc: Global, items: Items<T>) -> Result<Vec<T
     let found = by_key(alloc, items)?;
     let set = values_of(alloc, found)?;
     Ok(set)
+}
+
+/// Type uses in the order of their texts, each text once.
+pub(crate) fn uses_in_order(alloc: Global, uses: Uses) -> Result<Uses, AllocError>
+    ensures { IfOk result (λ set. set ≡ set_by text_of uses) }
+{
+    Ok(Items::from_vec(in_order(alloc, uses)?))
+}
+
+/// Full names in the order of bytes, each once.
+pub(crate) fn names_by_bytes(alloc: Global, names: FullNames) -> Result<FullNames, AllocError>
+    ensures { IfOk result (λ set. set ≡ names_in_order names) }
+{
+    let items = Items::from_vec(names.into_vec());
+    Ok(Listed::from_vec(in_order(alloc, items)?))
 }

@@ -1,3 +1,5 @@
+//! Fundamental types and uses of types.
+
 ghost use Rattle.std.specs.Prelude.{◌≡◌, ◌++◌, ◌∷◌, [], if◌then◌else◌, ◌↔◌, IsTrue, IfOk, OnOk, string_bytes};
 ghost use Rattle.wr_base.specs.Uses.{text_of, word_of};
 ghost use Rattle.wr_base.specs.Words.{base_of_word};

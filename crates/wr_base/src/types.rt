@@ -1,19 +1,22 @@
+//! Declarations in the order of their full names.
+
 ghost use Rattle.std.specs.Prelude.{◌≡◌, ◌<◌, ◌≤◌, ◌+◌, ◌^◌, List, ℕ, length, map, slice_get, Some, None, Contains, IfOk, IfErr, IfSome, IfNone, OnOk, OnErr, vec_len};
 ghost use Rattle.std.specs.Option.{option_copied};
 ghost use Rattle.std.specs.Ordering.{nat_cmp};
 ghost use Rattle.std.specs.List.{AllAdjacentBelow};
 ghost use Rattle.std.specs.List.Sorted.{IsPermutation, IsSortedByKey};
 ghost use Rattle.std.specs.Cmp.Lexicographic.{slice_cmp};
+ghost use Rattle.wr_base.specs.declared.declaration.Declaration.TheVariants.{Interface, Class};
 ghost use Rattle.wr_base.specs.Declarations.{declared_as, name_of, Precedes, IsInOrder, FirstRepeat, IsOnce};
 ghost use Rattle.wr_base.specs.Sets.{set_by};
 ghost use Rattle.wr_base.specs.Uses.{text_of};
 ghost use Rattle.wr_base.specs.Normal.{normal, names_in_order};
 ghost use Rattle.wr_base.specs.Refusals.{IsRefusalOf};
 
+use crate::class_lists::ClassLists;
 use crate::same::same_lists;
-use crate::sets::in_order;
-use crate::{Declaration, FullName, FullNames, Listed, Same, Stop, Uses};
-use sqlite_items::Items;
+use crate::sets::uses_in_order;
+use crate::{Declaration, FullName, Members, Same, Stop, TypeUse, Uses};
 use std::alloc::{AllocError, Global};
 use std::marker::Model;
 
@@ -64,17 +67,41 @@ fn first_repeat(list: &[Declaration]) -> Option<usize>
     None
 }
 
-fn uses_in_order(alloc: Global, uses: Uses) -> Result<Uses, AllocError>
-    ensures { IfOk result (λ set. set ≡ set_by text_of uses) }
+fn interface_in_sets(
+    alloc: Global,
+    name: FullName,
+    version: u32,
+    id: u128,
+    owner: Option<FullName>,
+    requires_: Uses,
+    members: Members,
+) -> Result<Declaration, AllocError>
+    ensures { IfOk result (λ done. done ≡ Interface name version id owner (set_by text_of requires_) members) }
 {
-    Ok(Items::from_vec(in_order(alloc, uses)?))
+    let requires_ = uses_in_order(alloc, requires_)?;
+    Ok(Declaration::Interface {
+        name,
+        version,
+        id,
+        owner,
+        requires_,
+        members,
+    })
 }
 
-fn names_by_bytes(alloc: Global, names: FullNames) -> Result<FullNames, AllocError>
-    ensures { IfOk result (λ set. set ≡ names_in_order names) }
+fn class_in_sets(
+    alloc: Global,
+    name: FullName,
+    version: u32,
+    fixed: bool,
+    default: Option<TypeUse>,
+    direct: bool,
+    lists: ClassLists,
+) -> Result<Declaration, AllocError>
+    ensures { IfOk result (λ done. done ≡ Class name version fixed default (set_by text_of lists.has) direct (names_in_order lists.factories) (names_in_order lists.statics)) }
 {
-    let items = Items::from_vec(names.into_vec());
-    Ok(Listed::from_vec(in_order(alloc, items)?))
+    let lists = lists.in_order(alloc)?;
+    Ok(lists.into_class(name, version, fixed, default, direct))
 }
 
 // Its lists that stand for sets are put in order.
@@ -89,14 +116,7 @@ fn in_sets(alloc: Global, declaration: Declaration) -> Result<Declaration, Alloc
             owner,
             requires_,
             members,
-        } => Ok(Declaration::Interface {
-            name,
-            version,
-            id,
-            owner,
-            requires_: uses_in_order(alloc, requires_)?,
-            members,
-        }),
+        } => interface_in_sets(alloc, name, version, id, owner, requires_, members),
         Declaration::Class {
             name,
             version,
@@ -106,16 +126,14 @@ fn in_sets(alloc: Global, declaration: Declaration) -> Result<Declaration, Alloc
             direct,
             factories,
             statics,
-        } => Ok(Declaration::Class {
-            name,
-            version,
-            fixed,
-            default,
-            has: uses_in_order(alloc, has)?,
-            direct,
-            factories: names_by_bytes(alloc, factories)?,
-            statics: names_by_bytes(alloc, statics)?,
-        }),
+        } => {
+            let lists = ClassLists {
+                has,
+                factories,
+                statics,
+            };
+            class_in_sets(alloc, name, version, fixed, default, direct, lists)
+        }
         other => Ok(other),
     }
 }
