@@ -1,7 +1,9 @@
 -- A heap as the writer builds it, and the list of its entries.
 use Rattle.std.specs.Prelude.{◌≡◌, ℕ, ◌+◌, List, [], ◌∷◌, length, map}
 use Rattle.std.specs.List.{flat_map}
-use Rattle.winmd_rows.specs.Entries.{Entries, text_entry, blob_entry}
+use Rattle.md_heaps.specs.Blobs.{blob_bytes}
+use Rattle.md_heaps.specs.Texts.{text_bytes}
+use Rattle.winmd_rows.specs.Entries.{Entries}
 use Rattle.enum_image.specs.declared.heap.Framing.{Framing}
 use Rattle.enum_image.specs.declared.heap.Framing.TheVariants.{Text, Blob}
 use Rattle.enum_image.specs.declared.heap.Heap.{Heap}
@@ -9,8 +11,8 @@ use Rattle.enum_image.specs.declared.layout.Layout.{Layout}
 
 -- the bytes of an entry
 abbrev pub entry_of : Framing → List ℕ → List ℕ
-entry_of Text = text_entry
-entry_of Blob = blob_entry
+entry_of Text = text_bytes
+entry_of Blob = blob_bytes
 
 -- each item beside the index where it stands
 abbrev pub places_of : (List ℕ → List ℕ) → ℕ → List (List ℕ) → List (List ℕ × ℕ)

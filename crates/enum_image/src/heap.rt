@@ -2,11 +2,12 @@
 
 ghost use Rattle.std.specs.Prelude.{◌≡◌, ℕ, ◌++◌, ◌<◌, List, [], ◌∷◌, OnOk, IfOk, length, map, All};
 ghost use Rattle.std.specs.List.{fold};
-ghost use Rattle.winmd_rows.specs.Entries.{compressed_bytes, with_item, index_in};
+ghost use Rattle.winmd_rows.specs.Entries.{with_item, index_in};
 ghost use Rattle.enum_image.specs.declared.heap.Framing as framings;
 ghost use Rattle.enum_image.specs.Heaps.{entry_of, IsHeap};
 
 use indexmap::IndexMap;
+use md_heaps::put_compressed;
 use std::alloc::Global;
 use wr_base::Memory;
 
@@ -25,20 +26,6 @@ pub struct Heap {
     pub places: IndexMap<Vec<u8>, u64>,
 }
 
-/// Writes a number in the shortest compressed form (II.23.2).
-fn put_compressed(out: &mut Vec<u8>, n: usize) -> Result<(), Memory>
-    requires { n < 512 }
-    ensures { OnOk result (out.new.items ≡ out.old.items ++ compressed_bytes n) }
-{
-    if n < 0x80 {
-        out.push(n as u8)?;
-        return Ok(());
-    }
-    out.push((0x80 + n / 0x100) as u8)?;
-    out.push((n % 0x100) as u8)?;
-    Ok(())
-}
-
 /// Writes an entry at the end.
 fn put_entry(out: &mut Vec<u8>, framing: Framing, item: &[u8]) -> Result<(), Memory>
     requires { length item.now < 512 }
@@ -51,7 +38,7 @@ fn put_entry(out: &mut Vec<u8>, framing: Framing, item: &[u8]) -> Result<(), Mem
             Ok(())
         }
         Framing::Blob => {
-            put_compressed(out, item.len())?;
+            put_compressed(out, item.len() as u32)?;
             out.extend_from_slice(item)?;
             Ok(())
         }

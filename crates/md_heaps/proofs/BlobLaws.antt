@@ -1,19 +1,14 @@
 -- A blob that is written stands at its index, and stays.
-use Rattle.std.proofs.Common.{◌≡◌, ℕ, ◌+◌, ◌^◌, ◌<◌, ◌≤◌, Bool, true, false, cond, ltb, List, [], ◌∷◌, ◌++◌, length, drop, Ok, Err, refl, ap, subst, ◌∙◌, arith, length-append, append_assoc, inl, inr}
+use Rattle.std.proofs.Common.{◌≡◌, ℕ, ◌+◌, ◌^◌, ◌<◌, Bool, true, false, cond, ltb, List, [], ◌∷◌, ◌++◌, length, Ok, Err, refl, arith, length-append, inl, inr}
 use Rattle.std.proofs.lemmas.Grind.{common_steps}
 use Rattle.std.proofs.lemmas.Bool.{cases_lt, lt-ltb, le-ltb}
-use Rattle.std.proofs.lemmas.List.{drop-append-le}
-use Rattle.std.proofs.Math.ListN.{drop_of_length-le}
-use Rattle.std.proofs.Math.Nat.{le_of_lt}
-use Rattle.std.proofs.Math.Seq.{drop-append_seam}
 use Rattle.byteorder.specs.Endian.{big_bytes}
 use Rattle.byteorder.specs.Numbers.{big_from-append}
 use borrow.Author.Tests.{ltb-true}
 use Rattle.md_heaps.specs.Faults.{fault_at, BadLead}
 use Rattle.md_heaps.specs.Integers.{compressed_of, in_bytes, shortest}
-use Rattle.md_heaps.specs.Blobs.{BlobAt, blob_bytes}
-use Rattle.md_heaps.specs.Heaps.{StandsAt}
-use Rattle.md_heaps.proofs.HeapLaws.{stands_grows, stands_new}
+use Rattle.md_heaps.specs.Blobs.{BlobHere, blob_bytes}
+use Rattle.md_heaps.proofs.HeapLaws.{stands_grows}
 
 in_bytes_grows : (size lead : ℕ) (bytes more : List ℕ) (value count : ℕ) → in_bytes size lead bytes ≡ Ok (value, count) → in_bytes size lead (bytes ++ more) ≡ Ok (value, count)
 in_bytes_grows size lead bytes more value count h =
@@ -38,19 +33,6 @@ compressed_grows (a ∷ bytes) more value size h = by (ltb a 0x80) (ltb a 0xC0) 
     by false false true h = in_bytes_grows 4 0xC0000000 (a ∷ bytes) more value size h
     by false false false h = absurd cc
 
-pub blob_grows : (bytes more blob : List ℕ) (at : ℕ) → BlobAt bytes at blob → BlobAt (bytes ++ more) at blob
-blob_grows bytes more blob at h = record {
-  size = h.size;
-  lead = ap compressed_of (drop-append-le at bytes more within) ∙ compressed_grows (drop at bytes) more (length blob) h.size h.lead;
-  whole = stands_grows bytes more blob (at + h.size) h.whole;
-}
-  where
-    within : at ≤ length bytes
-    within = elim (cases_lt (length bytes) at) [
-      | inl past ↦ absurd (let none = drop_of_length-le bytes (le_of_lt past) in let e = rw none at h.lead in cc)
-      | inr below ↦ below
-    ]
-
 one_read : (value : ℕ) (rest : List ℕ) → value < 0x80 → compressed_of (big_bytes 1 value ++ rest) ≡ Ok (value, 1)
 one_read value rest small = grind (arith, common_steps)
 
@@ -71,11 +53,5 @@ shortest_read value rest small = by (ltb value 0x80) refl (ltb value 0x4000) ref
     by false _ true is = two_read value rest (ltb-true _ _ is)
     by false _ false _ = four_read value rest small
 
-pub blob_new : (bytes blob : List ℕ) → length blob < 2 ^ 29 → BlobAt (bytes ++ blob_bytes blob) (length bytes) blob
-blob_new bytes blob small =
-    let lead = shortest (length blob) in record {
-      size = length lead;
-      lead = ap compressed_of (drop-append_seam bytes (lead ++ blob)) ∙ shortest_read (length blob) blob small;
-      whole = subst (λ (l : List ℕ). StandsAt l (length bytes + length lead) blob) (append_assoc bytes lead blob)
-          (subst (λ (n : ℕ). StandsAt ((bytes ++ lead) ++ blob) n blob) (length-append bytes lead) (stands_new (bytes ++ lead) blob));
-    }
+pub here_grows : (bytes more blob : List ℕ) (at : ℕ) → BlobHere bytes at blob → BlobHere (bytes ++ more) at blob
+here_grows bytes more blob at h = stands_grows bytes more (blob_bytes blob) at h

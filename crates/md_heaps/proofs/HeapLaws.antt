@@ -1,5 +1,5 @@
 -- What was interned stands at its index, also once a heap has grown.
-use Rattle.std.proofs.Common.{◌≡◌, ℕ, ◌≤◌, Bool, true, false, cond, List, [], ◌∷◌, ◌++◌, length, drop, Some, None, refl, sym, ap, subst, ◌∙◌, arith, length-drop}
+use Rattle.std.proofs.Common.{◌≡◌, ℕ, ◌≤◌, Bool, true, false, cond, List, [], ◌∷◌, ◌++◌, length, take, drop, Some, None, refl, sym, ap, subst, ◌∙◌, arith, length-drop, take-take}
 use Rattle.std.proofs.lemmas.List.{take-append-le, drop-append-le, length-take}
 use Rattle.std.proofs.Math.Seq.{drop-append_seam, take-append_seam}
 use Rattle.std.proofs.lemmas.Grind.{common_steps}
@@ -33,28 +33,48 @@ index_of-with_entry heap content written index other =
 pub index_of-nothing : (heap : Heap) (content : List ℕ) → heap.entries ≡ empty → index_of heap content ≡ None
 index_of-nothing heap content none = ap (λ (i : Indices). get i content) none ∙ get-empty (slice_cmp nat_cmp) content
 
+-- a heap keeps itself
+pub keeps_same : (heap : Heap) → Keeps heap heap
+keeps_same heap = record { bytes = grind (arith, common_steps); entries = λ content index h. h }
+
+-- what a heap keeps that keeps another, the first keeps
+pub keeps_on : (a b c : Heap) → Keeps a b → Keeps b c → Keeps a c
+keeps_on a b c x y = record {
+  bytes =
+      let longer : length a.bytes ≤ length b.bytes = omega (arith, length-take (length a.bytes) b.bytes, ap length x.bytes) in
+      sym (take-take (length a.bytes) (length b.bytes) c.bytes longer) ∙ ap (take (length a.bytes)) y.bytes ∙ x.bytes;
+  entries = λ content index h. y.entries content index (x.entries content index h);
+}
+
+-- a heap with an entry more, which it lacked, keeps what it had
+pub keeps_new : (heap : Heap) (content written : List ℕ) (index : ℕ) → index_of heap content ≡ None → Keeps heap (with_entry heap content written index)
+keeps_new heap content written index absent = record {
+  bytes = take-append_seam heap.bytes written;
+  entries = λ other at h. index_of-with_entry heap content written index other ∙ kept other at (bytes_eq other content) refl h;
+}
+  where
+    kept : (other : List ℕ) (at : ℕ) (b : Bool) → bytes_eq other content ≡ b → index_of heap other ≡ Some at → cond b (Some index) (index_of heap other) ≡ Some at
+    kept other at true t h = absurd (let e1 = ap (index_of heap) ((bytes_eq-Decides other content).0 t) in let e2 = sym h ∙ e1 ∙ absent in cc)
+    kept other at false t h = h
+
+-- it has the index of that entry
+pub found_new : (heap : Heap) (content written : List ℕ) (index : ℕ) → index_of (with_entry heap content written index) content ≡ Some index
+found_new heap content written index =
+    index_of-with_entry heap content written index content ∙ ap (λ b. cond b (Some index) (index_of heap content)) ((bytes_eq-Decides content content).1 refl)
+
 module _ (At : List ℕ → ℕ → List ℕ → Type 0) where
   pub nothing_stands : (heap : Heap) → heap.entries ≡ empty → EachStands At heap
   nothing_stands heap none content index h = absurd (let never = sym h ∙ index_of-nothing heap content none in cc)
 
-  pub keeps_same : (heap : Heap) → EachStands At heap → Keeps At heap heap
-  keeps_same heap each = record { bytes = grind (arith, common_steps); entries = λ content index h. h; standing = each }
-
   module _ (grows : (bytes more content : List ℕ) (index : ℕ) → At bytes index content → At (bytes ++ more) index content) where
-    pub keeps_new : (heap : Heap) (content written : List ℕ) (index : ℕ) → EachStands At heap → index_of heap content ≡ None → At (heap.bytes ++ written) index content
-        → Keeps At heap (with_entry heap content written index)
-    keeps_new heap content written index each absent stands = record {
-      bytes = take-append_seam heap.bytes written;
-      entries = λ other at h. index_of-with_entry heap content written index other ∙ kept other at (bytes_eq other content) refl h;
-      standing = λ other at h. standing other at (bytes_eq other content) refl (sym (index_of-with_entry heap content written index other) ∙ h);
-    }
+    -- each entry stands also with one more
+    pub stands_with : (heap : Heap) (content written : List ℕ) (index : ℕ) → EachStands At heap → At (heap.bytes ++ written) index content
+        → EachStands At (with_entry heap content written index)
+    stands_with heap content written index each stands other at h =
+        by other at (bytes_eq other content) refl (sym (index_of-with_entry heap content written index other) ∙ h)
       where
-        kept : (other : List ℕ) (at : ℕ) (b : Bool) → bytes_eq other content ≡ b → index_of heap other ≡ Some at → cond b (Some index) (index_of heap other) ≡ Some at
-        kept other at true t h = absurd (let e1 = ap (index_of heap) ((bytes_eq-Decides other content).0 t) in let e2 = sym h ∙ e1 ∙ absent in cc)
-        kept other at false t h = h
-
-        standing : (other : List ℕ) (at : ℕ) (b : Bool) → bytes_eq other content ≡ b → cond b (Some index) (index_of heap other) ≡ Some at → At (heap.bytes ++ written) at other
-        standing other at true t h =
+        by : (other : List ℕ) (at : ℕ) (b : Bool) → bytes_eq other content ≡ b → cond b (Some index) (index_of heap other) ≡ Some at → At (heap.bytes ++ written) at other
+        by other at true t h =
             let same : index ≡ at = cc in
             subst (λ (text : List ℕ). At (heap.bytes ++ written) at text) (sym ((bytes_eq-Decides other content).0 t)) (subst (λ (n : ℕ). At (heap.bytes ++ written) n content) same stands)
-        standing other at false t h = grows heap.bytes written other at (each other at h)
+        by other at false t h = grows heap.bytes written other at (each other at h)

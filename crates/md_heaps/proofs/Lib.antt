@@ -3,3 +3,4 @@ pub mod GuidLaws
 pub mod HeapLaws
 pub mod IndexLaws
 pub mod TextLaws
+pub mod ReadLaws

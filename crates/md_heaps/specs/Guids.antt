@@ -1,8 +1,7 @@
 -- `#GUID` (ECMA-335 II.24.2.5): GUIDs of 16 bytes each, counted from 1.
-use Rattle.std.specs.Prelude.{◌≡◌, ℕ, ◌+◌, ◌-◌, ◌*◌, ◌^◌, ◌<◌, List, [], length, take, drop, Result, Ok, Err, nat_lt, ◌&&◌, if◌then◌else◌}
+use Rattle.std.specs.Prelude.{◌≡◌, ℕ, ◌+◌, ◌-◌, ◌*◌, ◌^◌, ◌<◌, List, [], length, drop}
 use Rattle.byteorder.specs.Endian.{little_number, big_number}
 use Rattle.std.specs.FinMap.{empty}
-use Rattle.md_heaps.specs.Faults.{ImageFault, past_heap}
 use Rattle.md_heaps.specs.Heaps.{Heap, StandsAt}
 
 -- The number of a GUID (RFC 9562), from its bytes: Data1, Data2 and Data3 have their lowest byte first, Data4 is eight bytes as they stand.
@@ -15,11 +14,6 @@ pub record GuidAt (heap : List ℕ) (index : ℕ) (guid : List ℕ) : Type 0 whe
   pub counted : 0 < index
   pub whole : StandsAt heap (16 * (index - 1)) guid
   pub sixteen : length guid ≡ 16
-
-abbrev pub guid_of : List ℕ → ℕ → Result ℕ ImageFault
-guid_of heap index =
-    if nat_lt 0 index && nat_lt (16 * index) (length heap + 1) then Ok (guid_number (take 16 (drop (16 * (index - 1)) heap)))
-    else Err past_heap
 
 -- a new heap
 abbrev pub no_guid : Heap

@@ -38,7 +38,6 @@ abbrev pub EachStands : (List ℕ → ℕ → List ℕ → Type 0) → Heap → 
 EachStands At heap = (content : List ℕ) (index : ℕ) → index_of heap content ≡ Some index → At heap.bytes index content
 
 -- what the old heap has stays: its bytes, and each entry at its index
-pub record Keeps (At : List ℕ → ℕ → List ℕ → Type 0) (old : Heap) (new : Heap) : Type 0 where
+pub record Keeps (old : Heap) (new : Heap) : Type 0 where
   pub bytes : take (length old.bytes) new.bytes ≡ old.bytes
   pub entries : (content : List ℕ) (index : ℕ) → index_of old content ≡ Some index → index_of new content ≡ Some index
-  pub standing : EachStands At new

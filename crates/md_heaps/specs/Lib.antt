@@ -4,4 +4,5 @@ pub mod Faults
 pub mod Guids
 pub mod Heaps
 pub mod Index
+pub mod Reading
 pub mod Texts

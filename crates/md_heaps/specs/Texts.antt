@@ -1,6 +1,5 @@
 -- `#Strings` (ECMA-335 II.24.2.3): texts in UTF-8, each ended by a zero byte.
-use Rattle.std.specs.Prelude.{◌≢◌, ℕ, ◌<◌, ◌⊎◌, List, [], ◌∷◌, ◌++◌, length, drop, All}
-use Rattle.std.specs.Str.{IsUtf8}
+use Rattle.std.specs.Prelude.{◌≢◌, ℕ, List, [], ◌∷◌, ◌++◌, All}
 use Rattle.std.specs.FinMap.{insert, empty}
 use Rattle.md_heaps.specs.Heaps.{Heap, StandsAt}
 
@@ -16,10 +15,6 @@ text_bytes text = text ++ 0 ∷ []
 pub record TextAt (heap : List ℕ) (at : ℕ) (text : List ℕ) : Type 0 where
   pub whole : StandsAt heap at (text_bytes text)
   pub ends : HasNoZero text
-
--- nothing at the index is a text: no zero ends it, or it isn't UTF-8
-abbrev pub NoTextAt : List ℕ → ℕ → Type 0
-NoTextAt heap at = (at < length heap) × (HasNoZero (drop at heap) ⊎ (bytes : List ℕ) × TextAt heap at bytes × ¬ (IsUtf8 bytes))
 
 -- a new heap: the empty text at 0
 abbrev pub first_text : Heap

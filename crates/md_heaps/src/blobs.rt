@@ -1,9 +1,10 @@
 //! `#Blob`: blobs behind their lengths (ECMA-335 II.24.2.4).
-ghost use Rattle.std.specs.Prelude.{◌≡◌, ◌+◌, ◌<◌, ◌≤◌, ◌^◌, ◌-◌, ◌↔◌, ◌⊎◌, ℕ, List, None, Some, Ok, Err, length, drop, OnErr, IfOk, IfErr, IsOkAnd};
-ghost use Rattle.md_heaps.specs.Blobs.{BlobAt, EndsPast, blob_bytes, first_blob};
-ghost use Rattle.md_heaps.specs.Integers.{HasBadLead, IsCut, compressed_of, shortest};
-ghost use Rattle.md_heaps.specs.Faults.{fault_at as fault_there, past_heap};
+ghost use Rattle.std.specs.Prelude.{◌≡◌, ◌+◌, ◌<◌, ◌≤◌, ◌^◌, ◌-◌, ◌↔◌, ℕ, [], None, Some, Ok, Err, length, OnErr, IfOk};
+ghost use Rattle.md_schema.specs.Given.{Gives};
+ghost use Rattle.md_heaps.specs.Blobs.{BlobHere, blob_bytes, first_blob};
 ghost use Rattle.md_heaps.specs.Heaps.{index_of, with_entry, length_with, EachStands, Keeps};
+ghost use Rattle.md_heaps.specs.Integers.{shortest};
+ghost use Rattle.md_heaps.specs.Reading as reading;
 
 use crate::faults::fault_at;
 use crate::integers::{compressed, put_compressed};
@@ -23,7 +24,7 @@ pub struct BlobHeap {
 
 impl Model for BlobHeap {
     ghost use Rattle.md_heaps.specs.Heaps.{Heap, heap_code, EachStands};
-    ghost use Rattle.md_heaps.specs.Blobs.{BlobAt};
+    ghost use Rattle.md_heaps.specs.Blobs.{BlobHere};
 
     ghost Value = { Heap };
 
@@ -31,13 +32,14 @@ impl Model for BlobHeap {
 
     ghost view = { λ h. h.store };
 
-    ghost invariant = { λ h. EachStands BlobAt h.store };
+    ghost invariant = { λ h. EachStands BlobHere h.store };
 }
 
 impl BlobHeap {
     /// A heap with the empty blob.
     pub fn new(alloc: Global) -> Result<BlobHeap, Memory>
-        ensures { IfOk result (λ heap. heap ≡ first_blob) }
+        ensures first { IfOk result (λ heap. heap ≡ first_blob) }
+        ensures empty { IfOk result (λ heap. index_of heap [] ≡ Some 0) }
     {
         let mut store = Store::new(alloc);
         store.add(&[0], &[], &[], 0)?;
@@ -48,7 +50,7 @@ impl BlobHeap {
     pub fn bytes(&self) -> &[u8]
         ensures bytes { result.now ≡ self.now.bytes }
         ensures small { length self.now.bytes < 2 ^ 29 }
-        ensures standing { EachStands BlobAt self.now }
+        ensures standing { EachStands BlobHere self.now }
     {
         self.store.bytes()
     }
@@ -60,8 +62,10 @@ impl BlobHeap {
         ensures added { index_of self.old blob.now ≡ None → IfOk result (λ at. (at ≡ length self.old.bytes) × (self.new ≡ with_entry self.old blob.now (blob_bytes blob.now) at)) }
         ensures full { (why : HeapFull) → (result ≡ Err (Stop.Refused why)) ↔ (index_of self.old blob.now ≡ None) × (2 ^ 29 - 1 < why.length) × (why.length ≡ length_with self.old (blob_bytes blob.now)) }
         ensures unchanged { OnErr result (self.new ≡ self.old) }
-        ensures stands { IfOk result (λ at. BlobAt self.new.bytes at blob.now) }
-        ensures keeps { Keeps BlobAt self.old self.new }
+        ensures found { IfOk result (λ at. index_of self.new blob.now ≡ Some at) }
+        ensures stands { IfOk result (λ at. BlobHere self.new.bytes at blob.now) }
+        ensures standing { EachStands BlobHere self.new }
+        ensures keeps { Keeps self.old self.new }
     {
         if let Some(at) = self.store.find(blob) {
             return Ok(at);
@@ -92,16 +96,13 @@ fn written_length(count: u32) -> u64
     lead + count as u64
 }
 
-// The count of the bytes of the blob at an index, and how many bytes that count takes.
-fn count_at(heap: &[u8], at: u32) -> Result<(u32, u32), ImageFault>
-    requires { at < length heap.now }
-    ensures count { IfOk result (λ found. (compressed_of (drop at heap.now) ≡ Ok found) × (found.1 ≤ length (drop at heap.now))) }
-    ensures none { (count size : ℕ) → compressed_of (drop at heap.now) ≡ Ok (count, size) → result ≡ Ok (count, size) }
-    ensures bad_lead { (result ≡ Err (fault_there ImageKind.BadLead at)) ↔ HasBadLead (drop at heap.now) }
-    ensures short { (result ≡ Err (fault_there ImageKind.Short at)) ↔ IsCut (drop at heap.now) }
-    ensures faults { IfErr result (λ fault. (fault ≡ fault_there ImageKind.BadLead at) ⊎ (fault ≡ fault_there ImageKind.Short at)) }
+// The compressed integer at an index, and how many bytes it takes.
+fn compressed_at(bytes: &[u8], at: u32) -> Result<(u32, u32), ImageFault>
+    requires { at < length bytes.now }
+    ensures exact { result ≡ reading.compressed_at bytes.now at }
+    ensures within { IfOk result (λ found. at + found.1 ≤ length bytes.now) }
 {
-    match compressed(tail(heap, at as usize)) {
+    match compressed(tail(bytes, at as usize)) {
         Ok(found) => Ok(found),
         Err(fault) => Err(fault_at(fault.kind, at)),
     }
@@ -109,18 +110,12 @@ fn count_at(heap: &[u8], at: u32) -> Result<(u32, u32), ImageFault>
 
 /// The blob at an index of `#Blob`, without its length (II.24.2.4). The length may have any of its forms.
 pub fn blob_at(heap: &[u8], at: u32) -> Result<&[u8], ImageFault>
-    ensures blob { IfOk result (λ blob. BlobAt heap.now at blob.now) }
-    ensures found { (blob : List ℕ) → BlobAt heap.now at blob → IsOkAnd result (λ found. found.now ≡ blob) }
-    ensures range { (result ≡ Err past_heap) ↔ (length heap.now ≤ at) }
-    ensures bad_lead { (result ≡ Err (fault_there ImageKind.BadLead at)) ↔ HasBadLead (drop at heap.now) }
-    ensures short { (result ≡ Err (fault_there ImageKind.Short at)) ↔ (at < length heap.now) × IsCut (drop at heap.now) }
-    ensures bad_length { (result ≡ Err (fault_there ImageKind.BadLength at)) ↔ (at < length heap.now) × EndsPast heap.now at }
-    ensures faults { IfErr result (λ fault. (fault ≡ past_heap) ⊎ ((fault ≡ fault_there ImageKind.BadLead at) ⊎ ((fault ≡ fault_there ImageKind.Short at) ⊎ (fault ≡ fault_there ImageKind.BadLength at)))) }
+    ensures exact { Gives (λ blob. blob.now) result (reading.blob_at heap.now at) }
 {
     if at as usize >= heap.len() {
         return Err(fault_at(ImageKind::HeapRange, 0));
     }
-    match count_at(heap, at) {
+    match compressed_at(heap, at) {
         Err(fault) => Err(fault),
         Ok((count, size)) => match part(heap, at as usize + size as usize, count as usize) {
             Some(blob) => Ok(blob),

@@ -1,8 +1,8 @@
 //! `#GUID`: GUIDs of 16 bytes, counted from 1 (ECMA-335 II.24.2.5).
-ghost use Rattle.std.specs.Prelude.{◌≡◌, ◌+◌, ◌*◌, ◌/◌, ◌<◌, ◌≤◌, ◌^◌, ◌-◌, ◌↔◌, ◌⊎◌, ℕ, None, Some, Ok, Err, length, OnErr, IfOk};
-ghost use Rattle.md_heaps.specs.Faults.{past_heap};
-ghost use Rattle.md_heaps.specs.Guids.{GuidAt, guid_number, guid_of, no_guid};
+ghost use Rattle.std.specs.Prelude.{◌≡◌, ◌+◌, ◌*◌, ◌/◌, ◌<◌, ◌≤◌, ◌^◌, ◌-◌, ◌↔◌, ℕ, None, Some, Ok, Err, length, OnErr, IfOk};
+ghost use Rattle.md_heaps.specs.Guids.{GuidAt, guid_number, no_guid};
 ghost use Rattle.md_heaps.specs.Heaps.{index_of, with_entry, length_with, EachStands, Keeps};
+ghost use Rattle.md_heaps.specs.Reading as reading;
 
 use crate::faults::fault_at;
 use crate::store::{HeapFull, Store};
@@ -58,8 +58,10 @@ impl GuidHeap {
         ensures added { index_of self.old guid.now ≡ None → IfOk result (λ index. (index ≡ length self.old.bytes / 16 + 1) × (self.new ≡ with_entry self.old guid.now guid.now index)) }
         ensures full { (why : HeapFull) → (result ≡ Err (Stop.Refused why)) ↔ (index_of self.old guid.now ≡ None) × (2 ^ 29 - 1 < why.length) × (why.length ≡ length_with self.old guid.now) }
         ensures unchanged { OnErr result (self.new ≡ self.old) }
+        ensures found { IfOk result (λ index. index_of self.new guid.now ≡ Some index) }
         ensures stands { IfOk result (λ index. GuidAt self.new.bytes index guid.now) }
-        ensures keeps { Keeps GuidAt self.old self.new }
+        ensures standing { EachStands GuidAt self.new }
+        ensures keeps { Keeps self.old self.new }
     {
         if let Some(index) = self.store.find(guid) {
             return Ok(index);
@@ -89,8 +91,7 @@ fn number_of(guid: &[u8]) -> u128
 
 /// The GUID at an index of `#GUID`, as a number (RFC 9562). The first index is 1.
 pub fn guid_at(heap: &[u8], index: u32) -> Result<u128, ImageFault>
-    ensures exact { result ≡ guid_of heap.now index }
-    ensures range { (result ≡ Err past_heap) ↔ ((index ≡ 0) ⊎ (length heap.now < 16 * index)) }
+    ensures exact { result ≡ reading.guid_at heap.now index }
 {
     if index == 0 || heap.len() < 16 * index as usize {
         return Err(fault_at(ImageKind::HeapRange, 0));

@@ -10,6 +10,7 @@ mod faults;
 mod guids;
 mod index;
 mod integers;
+mod laws;
 mod parts;
 mod store;
 mod texts;
@@ -17,6 +18,7 @@ mod texts;
 pub use blobs::{BlobHeap, blob_at};
 pub use guids::{GuidHeap, guid_at};
 pub use integers::{compressed, compressed_again, put_compressed};
+pub use laws::{blob_is_read, heaps_keep, interned_is_read, text_is_read};
 pub use store::HeapFull;
 #[doc(hidden)]
 pub use store::Store;

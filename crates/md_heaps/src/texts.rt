@@ -1,9 +1,9 @@
 //! `#Strings`: texts that each end in a zero byte (ECMA-335 II.24.2.3).
-ghost use Rattle.std.specs.Prelude.{◌≡◌, ◌==◌, ◌+◌, ◌<◌, ◌≤◌, ◌^◌, ◌-◌, ◌↔◌, ◌⊎◌, ℕ, List, None, Some, Ok, Err, length, drop, OnErr, IfOk, IfErr, IsOkAnd, MatchOption, position};
-ghost use Rattle.std.specs.Str.{IsUtf8};
-ghost use Rattle.md_heaps.specs.Faults.{fault_at as fault_there, past_heap};
+ghost use Rattle.std.specs.Prelude.{◌≡◌, ◌==◌, ◌+◌, ◌<◌, ◌≤◌, ◌^◌, ◌-◌, ◌↔◌, ℕ, [], None, Some, Ok, Err, length, drop, OnErr, IfOk, MatchOption, position};
+ghost use Rattle.md_schema.specs.Given.{Gives};
 ghost use Rattle.md_heaps.specs.Heaps.{index_of, with_entry, length_with, Keeps, EachStands};
-ghost use Rattle.md_heaps.specs.Texts.{TextAt, NoTextAt, HasNoZero, text_bytes, first_text};
+ghost use Rattle.md_heaps.specs.Reading as reading;
+ghost use Rattle.md_heaps.specs.Texts.{TextAt, HasNoZero, text_bytes, first_text};
 
 use crate::faults::fault_at;
 use crate::parts::tail;
@@ -36,7 +36,8 @@ impl Model for TextHeap {
 impl TextHeap {
     /// A heap with the empty text.
     pub fn new(alloc: Global) -> Result<TextHeap, Memory>
-        ensures { IfOk result (λ heap. heap ≡ first_text) }
+        ensures first { IfOk result (λ heap. heap ≡ first_text) }
+        ensures empty { IfOk result (λ heap. index_of heap [] ≡ Some 0) }
     {
         let mut store = Store::new(alloc);
         store.add(&[], &[], &[0], 0)?;
@@ -59,8 +60,10 @@ impl TextHeap {
         ensures added { index_of self.old text.now ≡ None → IfOk result (λ at. (at ≡ length self.old.bytes) × (self.new ≡ with_entry self.old text.now (text_bytes text.now) at)) }
         ensures full { (why : HeapFull) → (result ≡ Err (Stop.Refused why)) ↔ (index_of self.old text.now ≡ None) × (2 ^ 29 - 1 < why.length) × (why.length ≡ length_with self.old (text_bytes text.now)) }
         ensures unchanged { OnErr result (self.new ≡ self.old) }
+        ensures found { IfOk result (λ at. index_of self.new text.now ≡ Some at) }
         ensures stands { IfOk result (λ at. TextAt self.new.bytes at text.now) }
-        ensures keeps { Keeps TextAt self.old self.new }
+        ensures standing { EachStands TextAt self.new }
+        ensures keeps { Keeps self.old self.new }
     {
         if let Some(at) = self.store.find(text) {
             return Ok(at);
@@ -95,11 +98,7 @@ fn before_zero(heap: &[u8], start: usize) -> Option<&[u8]>
 
 /// The text at an index of `#Strings`, without the zero that ends it (II.24.2.3).
 pub fn text_at(heap: &[u8], at: u32) -> Result<&[u8], ImageFault>
-    ensures text { IfOk result (λ text. TextAt heap.now at text.now × IsUtf8 text.now) }
-    ensures found { (text : List ℕ) → TextAt heap.now at text → IsUtf8 text → IsOkAnd result (λ found. found.now ≡ text) }
-    ensures range { (result ≡ Err past_heap) ↔ (length heap.now ≤ at) }
-    ensures no_text { (result ≡ Err (fault_there ImageKind.HeapText at)) ↔ NoTextAt heap.now at }
-    ensures faults { IfErr result (λ fault. (fault ≡ past_heap) ⊎ (fault ≡ fault_there ImageKind.HeapText at)) }
+    ensures exact { Gives (λ text. text.now) result (reading.text_at heap.now at) }
 {
     let start = at as usize;
     if start >= heap.len() {

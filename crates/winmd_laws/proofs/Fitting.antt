@@ -15,7 +15,9 @@ use Rattle.md_schema.specs.Widths.{count_of}
 use Rattle.md_schema.specs.Written.{RowFits, Fit, row_counts, table_bytes}
 use Rattle.md_schema.proofs.TablesLemmas.{written_begun, written_end}
 use Rattle.wr_base.specs.declared.declaration.Case.{Case}
-use Rattle.winmd_rows.specs.Entries.{Entries, text_entry, blob_entry, entries_of, index_in, texts_in, blobs_in, texts_in_row, blobs_in_row, numbers_in_row, numbers_of}
+use Rattle.md_heaps.specs.Blobs.{blob_bytes}
+use Rattle.md_heaps.specs.Texts.{text_bytes}
+use Rattle.winmd_rows.specs.Entries.{Entries, entries_of, index_in, texts_in, blobs_in, texts_in_row, blobs_in_row, numbers_in_row, numbers_of}
 use Rattle.winmd_rows.specs.Fits.{CaseFits}
 use Rattle.winmd_rows.specs.Images.{entries_for, sizes_for, parts_with, text_heap, blob_heap}
 use Rattle.winmd_rows.specs.Spelled.{Parts, metadata, metadata_head, root_head, stream_heads, padded, zeros, up}
@@ -52,39 +54,39 @@ length-constants : (n : ℕ) (cs : List Case) → length (constant_rows n cs) �
 length-constants n [] = refl
 length-constants n (c ∷ cs) = ap suc (length-constants (suc n) cs)
 
-names_low : (cs : List Case) → AllByRecursion CaseFits cs → weight text_entry (flat_map texts_in_row (map case_row cs)) ≤ 256 * length cs
+names_low : (cs : List Case) → AllByRecursion CaseFits cs → weight text_bytes (flat_map texts_in_row (map case_row cs)) ≤ 256 * length cs
 names_low [] h = omega arith
 names_low (c ∷ cs) h =
     let rest = names_low cs h.1 in
     let short : length c.name ≤ 255 = h.0.short in
     omega (arith, rest, short, length-append c.name (0 ∷ []))
 
-no_names : (n : ℕ) (cs : List Case) → weight text_entry (flat_map texts_in_row (constant_rows n cs)) ≡ 0
+no_names : (n : ℕ) (cs : List Case) → weight text_bytes (flat_map texts_in_row (constant_rows n cs)) ≡ 0
 no_names n [] = refl
 no_names n (c ∷ cs) = no_names (suc n) cs
 
-signatures_low : (cs : List Case) → weight blob_entry (flat_map blobs_in_row (map case_row cs)) ≡ 4 * length cs
+signatures_low : (cs : List Case) → weight blob_bytes (flat_map blobs_in_row (map case_row cs)) ≡ 4 * length cs
 signatures_low [] = refl
 signatures_low (c ∷ cs) = let rest = signatures_low cs in omega (arith, rest)
 
-constants_low : (n : ℕ) (cs : List Case) → weight blob_entry (flat_map blobs_in_row (constant_rows n cs)) ≡ 5 * length cs
+constants_low : (n : ℕ) (cs : List Case) → weight blob_bytes (flat_map blobs_in_row (constant_rows n cs)) ≡ 5 * length cs
 constants_low n [] = refl
 constants_low n (c ∷ cs) = let rest = constants_low (suc n) cs in omega (arith, rest)
 
-texts_low : (full : List ℕ) (version : ℕ) (cs : List Case) → length full ≤ 511 → length cs ≤ 200 → AllByRecursion CaseFits cs → length (flat_map text_entry (entries_of (texts_in (enum_rows full version cs)))) ≤ 60000
+texts_low : (full : List ℕ) (version : ℕ) (cs : List Case) → length full ≤ 511 → length cs ≤ 200 → AllByRecursion CaseFits cs → length (flat_map text_bytes (entries_of (texts_in (enum_rows full version cs)))) ≤ 60000
 texts_low full version cs short few fits =
-    let heap = heap_low text_entry ([] ∷ []) (texts_in (enum_rows full version cs)) in
+    let heap = heap_low text_bytes ([] ∷ []) (texts_in (enum_rows full version cs)) in
     let names = names_low cs fits in
-    let first = weight_append text_entry (flat_map texts_in_row (map case_row cs)) (codes ".ctor" ∷ (flat_map texts_in_row (constant_rows 2 cs) ++ (codes "types" ∷ [] ∷ codes "mscorlib" ∷ [] ∷ codes "Windows.Foundation.FoundationContract" ∷ [] ∷ []))) in
-    let second = weight_append text_entry (flat_map texts_in_row (constant_rows 2 cs)) (codes "types" ∷ [] ∷ codes "mscorlib" ∷ [] ∷ codes "Windows.Foundation.FoundationContract" ∷ [] ∷ []) in
+    let first = weight_append text_bytes (flat_map texts_in_row (map case_row cs)) (codes ".ctor" ∷ (flat_map texts_in_row (constant_rows 2 cs) ++ (codes "types" ∷ [] ∷ codes "mscorlib" ∷ [] ∷ codes "Windows.Foundation.FoundationContract" ∷ [] ∷ []))) in
+    let second = weight_append text_bytes (flat_map texts_in_row (constant_rows 2 cs)) (codes "types" ∷ [] ∷ codes "mscorlib" ∷ [] ∷ codes "Windows.Foundation.FoundationContract" ∷ [] ∷ []) in
     omega (arith, heap, names, no_names 2 cs, first, second, name_short full, space_short full, length-append (name_part full) (0 ∷ []), length-append (space_part full) (0 ∷ []))
 
-blobs_low : (full : List ℕ) (version : ℕ) (cs : List Case) → length cs ≤ 200 → length (flat_map blob_entry (entries_of (blobs_in (enum_rows full version cs)))) ≤ 60000
+blobs_low : (full : List ℕ) (version : ℕ) (cs : List Case) → length cs ≤ 200 → length (flat_map blob_bytes (entries_of (blobs_in (enum_rows full version cs)))) ≤ 60000
 blobs_low full version cs few =
-    let heap = heap_low blob_entry ([] ∷ []) (blobs_in (enum_rows full version cs)) in
+    let heap = heap_low blob_bytes ([] ∷ []) (blobs_in (enum_rows full version cs)) in
     let behind : List (List ℕ) = (1 ∷ 0 ∷ le 4 version ++ 0 ∷ 0 ∷ []) ∷ [] ∷ (0xB7 ∷ 0x7A ∷ 0x5C ∷ 0x56 ∷ 0x19 ∷ 0x34 ∷ 0xE0 ∷ 0x89 ∷ []) ∷ [] ∷ [] ∷ [] ∷ [] in
-    let first = weight_append blob_entry (flat_map blobs_in_row (map case_row cs)) ((0x20 ∷ 1 ∷ 1 ∷ 9 ∷ []) ∷ (flat_map blobs_in_row (constant_rows 2 cs) ++ behind)) in
-    let second = weight_append blob_entry (flat_map blobs_in_row (constant_rows 2 cs)) behind in
+    let first = weight_append blob_bytes (flat_map blobs_in_row (map case_row cs)) ((0x20 ∷ 1 ∷ 1 ∷ 9 ∷ []) ∷ (flat_map blobs_in_row (constant_rows 2 cs) ++ behind)) in
+    let second = weight_append blob_bytes (flat_map blobs_in_row (constant_rows 2 cs)) behind in
     omega (arith, heap, signatures_low cs, constants_low 2 cs, first, second)
 
 length-zeros : (n : ℕ) → length (zeros n) ≡ n
@@ -117,8 +119,8 @@ pub record Small (full : List ℕ) (version : ℕ) (cs : List Case) : Type 0 whe
   pub fields : ltb 65535 (suc (length (map case_row cs))) ≡ false
   pub constant : leb (2 ^ 14) (suc (length (map case_row cs))) ≡ false
   pub attribute : leb (2 ^ 11) (suc (length (map case_row cs))) ≡ false
-  pub text : (item : List ℕ) → index_in text_entry 0 (entries_for (enum_rows full version cs)).texts item < 256 ^ 2
-  pub blob : (item : List ℕ) → index_in blob_entry 0 (entries_for (enum_rows full version cs)).blobs item < 256 ^ 2
+  pub text : (item : List ℕ) → index_in text_bytes 0 (entries_for (enum_rows full version cs)).texts item < 256 ^ 2
+  pub blob : (item : List ℕ) → index_in blob_bytes 0 (entries_for (enum_rows full version cs)).blobs item < 256 ^ 2
 
 pub small : (full : List ℕ) (version : ℕ) (cs : List Case) → length full ≤ 511 → length cs ≤ 200 → AllByRecursion CaseFits cs → Small full version cs
 small full version cs short few fits =
@@ -126,13 +128,13 @@ small full version cs short few fits =
     let b = blobs_low full version cs few in
     let entries : Entries = entries_for (enum_rows full version cs) in
     record {
-      texts = lt-leb _ _ (omega (arith, t, padded_low (flat_map text_entry entries.texts)));
-      blobs = lt-leb _ _ (omega (arith, b, padded_low (flat_map blob_entry entries.blobs)));
+      texts = lt-leb _ _ (omega (arith, t, padded_low (flat_map text_bytes entries.texts)));
+      blobs = lt-leb _ _ (omega (arith, b, padded_low (flat_map blob_bytes entries.blobs)));
       fields = le-ltb _ _ (omega (arith, length-cases cs));
       constant = lt-leb _ _ (omega (arith, length-cases cs));
       attribute = lt-leb _ _ (omega (arith, length-cases cs));
-      text = λ item. omega (arith, t, index_low text_entry 0 entries.texts item);
-      blob = λ item. omega (arith, b, index_low blob_entry 0 entries.blobs item);
+      text = λ item. omega (arith, t, index_low text_bytes 0 entries.texts item);
+      blob = λ item. omega (arith, b, index_low blob_bytes 0 entries.blobs item);
     }
 
 -- ---- the numbers fit their columns
@@ -238,8 +240,8 @@ image_short full version cs short few fits =
       metadata_length (parts_with entries (enum_rows full version cs)),
       stream_low full version cs few s,
       padded_low stream,
-      padded_low (flat_map text_entry entries.texts),
-      padded_low (flat_map blob_entry entries.blobs),
+      padded_low (flat_map text_bytes entries.texts),
+      padded_low (flat_map blob_bytes entries.blobs),
       texts_low full version cs short few fits,
       blobs_low full version cs few,
     )

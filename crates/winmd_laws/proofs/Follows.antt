@@ -10,9 +10,11 @@ use Rattle.md_schema.specs.Schema.{columns_of, bits_of, choices_of}
 use Rattle.md_schema.specs.declared.column.CodedIndex.TheVariants as coded
 use Rattle.md_schema.proofs.CodesLemmas.{encoded}
 use Rattle.wr_base.specs.declared.declaration.Case.{Case}
-use Rattle.winmd_rows.specs.Entries.{Entries, text_entry, blob_entry, index_in, texts_in, blobs_in, texts_in_row, blobs_in_row, numbers_in_row, numbers_of}
+use Rattle.md_heaps.specs.Blobs.{blob_bytes}
+use Rattle.md_heaps.specs.Texts.{text_bytes}
+use Rattle.winmd_rows.specs.Entries.{Entries, index_in, texts_in, blobs_in, texts_in_row, blobs_in_row, numbers_in_row, numbers_of}
 use Rattle.winmd_rows.specs.Fits.{CaseFits}
-use Rattle.winmd_rows.specs.Heaps.{text_at, blob_at}
+use Rattle.md_heaps.specs.Reading.{text_at, blob_at}
 use Rattle.winmd_rows.specs.Types.{name_part, space_part, bits_of_int}
 use Rattle.winmd_rows.specs.Values.{Heaps, followed, followed_rows, stated, stated_row}
 use Rattle.winmd_rows.specs.Written.{case_row, constant_rows, enum_rows}
@@ -20,8 +22,8 @@ use Rattle.winmd_laws.proofs.Paths.{ArePlain, plain_by, identifier_plain}
 
 -- what is among the entries of heaps is read at its index
 pub record Readable (entries : Entries) (heaps : Heaps) : Type 0 where
-  pub text : (text : List ℕ) → list_any (bytes_eq text) entries.texts ≡ true → ArePlain text → text_at heaps.texts (index_in text_entry 0 entries.texts text) ≡ Ok text
-  pub blob : (blob : List ℕ) → list_any (bytes_eq blob) entries.blobs ≡ true → length blob < 128 → blob_at heaps.blobs (index_in blob_entry 0 entries.blobs blob) ≡ Ok blob
+  pub text : (text : List ℕ) → list_any (bytes_eq text) entries.texts ≡ true → ArePlain text → text_at heaps.texts (index_in text_bytes 0 entries.texts text) ≡ Ok text
+  pub blob : (blob : List ℕ) → list_any (bytes_eq blob) entries.blobs ≡ true → length blob < 128 → blob_at heaps.blobs (index_in blob_bytes 0 entries.blobs blob) ≡ Ok blob
 
 abbrev pub Among : List (List ℕ) → List (List ℕ) → Type 0
 Among entries used = AllByRecursion (λ item. IsTrue (list_any (bytes_eq item) entries)) used

@@ -1,27 +1,14 @@
 -- Heaps that are written: each entry once, in the order of its first use, and the index where it stands.
-use Rattle.std.specs.Prelude.{ℕ, ◌+◌, ◌/◌, ◌%◌, unwrap_or, List, [], ◌∷◌, ◌++◌, length, map, nat_lt, bytes_eq, if◌then◌else◌}
+use Rattle.std.specs.Prelude.{ℕ, ◌+◌, unwrap_or, List, [], ◌∷◌, ◌++◌, length, map, bytes_eq, if◌then◌else◌}
 use Rattle.std.specs.List.{list_any, flat_map, fold}
 use Rattle.md_schema.specs.declared.table.Table.{Table}
 use Rattle.md_schema.specs.declared.column.Column.{Column}
 use Rattle.md_schema.specs.declared.column.Column.TheVariants.{One, Two, Four, Texts, Guids, Blobs, Index, Coded}
 use Rattle.md_schema.specs.Schema.{all_tables, columns_of, choices_of, bits_of}
 use Rattle.md_schema.specs.Codes.{code_of}
+use Rattle.md_heaps.specs.Blobs.{blob_bytes}
+use Rattle.md_heaps.specs.Texts.{text_bytes}
 use Rattle.winmd_rows.specs.Values.{Value, Number, Text, Blob, Guid, To}
-
--- a text with a zero behind it (ECMA-335 II.24.2.3)
-abbrev pub text_entry : List ℕ → List ℕ
-text_entry text = text ++ 0 ∷ []
-
--- a number in the shortest compressed form (II.23.2)
-abbrev pub compressed_bytes : ℕ → List ℕ
-compressed_bytes n =
-    if nat_lt n 0x80 then n ∷ []
-    else if nat_lt n 0x4000 then (0x80 + n / 0x100) ∷ (n % 0x100) ∷ []
-    else (0xC0 + n / 0x1000000) ∷ (n / 0x10000 % 0x100) ∷ (n / 0x100 % 0x100) ∷ (n % 0x100) ∷ []
-
--- a blob behind its length (II.24.2.4)
-abbrev pub blob_entry : List ℕ → List ℕ
-blob_entry blob = compressed_bytes (length blob) ++ blob
 
 -- one more item, unless it is there
 abbrev pub with_item : List (List ℕ) → List ℕ → List (List ℕ)
@@ -74,8 +61,8 @@ index_of (Index other) table row = row
 
 abbrev pub number_in_cell : Entries → Column → Value → ℕ
 number_in_cell entries column (Number n) = n
-number_in_cell entries column (Text text) = index_in text_entry 0 entries.texts text
-number_in_cell entries column (Blob blob) = index_in blob_entry 0 entries.blobs blob
+number_in_cell entries column (Text text) = index_in text_bytes 0 entries.texts text
+number_in_cell entries column (Blob blob) = index_in blob_bytes 0 entries.blobs blob
 number_in_cell entries column (Guid n) = n
 number_in_cell entries column (To table row) = index_of column table row
 

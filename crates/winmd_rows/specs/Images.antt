@@ -5,8 +5,10 @@ use Rattle.md_schema.specs.declared.table.Table.{Table}
 use Rattle.md_schema.specs.declared.table.Table.TheVariants as tables
 use Rattle.md_schema.specs.declared.sizes.Sizes.{Sizes}
 use Rattle.wr_base.specs.declared.declaration.Declaration.{Declaration}
+use Rattle.md_heaps.specs.Blobs.{blob_bytes}
+use Rattle.md_heaps.specs.Texts.{text_bytes}
 use Rattle.winmd_rows.specs.Values.{Value}
-use Rattle.winmd_rows.specs.Entries.{Entries, text_entry, blob_entry, entries_of, texts_in, blobs_in, numbers_of}
+use Rattle.winmd_rows.specs.Entries.{Entries, entries_of, texts_in, blobs_in, numbers_of}
 use Rattle.md_schema.specs.Written.{table_bytes}
 use Rattle.winmd_rows.specs.Spelled.{Parts, parts_of, image_bytes, padded}
 use Rattle.winmd_rows.specs.Written.{rows_of}
@@ -29,10 +31,10 @@ rows_at rows (Some table) = length (rows table)
 
 -- the bytes of heaps with these entries
 abbrev pub text_heap : List (List ℕ) → List ℕ
-text_heap texts = padded (flat_map text_entry texts)
+text_heap texts = padded (flat_map text_bytes texts)
 
 abbrev pub blob_heap : List (List ℕ) → List ℕ
-blob_heap blobs = padded (flat_map blob_entry blobs)
+blob_heap blobs = padded (flat_map blob_bytes blobs)
 
 -- which heaps are long, and how many rows each table has
 abbrev pub sizes_for : Entries → (Table → List (List Value)) → Sizes

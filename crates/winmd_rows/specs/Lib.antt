@@ -1,5 +1,4 @@
 pub mod Faults
-pub mod Heaps
 pub mod Values
 pub mod Types
 pub mod Spelled

@@ -5,10 +5,11 @@ use Rattle.md_schema.specs.declared.column.Column.{Column}
 use Rattle.md_schema.specs.declared.column.Column.TheVariants.{One, Two, Four, Texts, Guids, Blobs, Index, Coded}
 use Rattle.md_schema.specs.Schema.{columns_of, choices_of, bits_of}
 use Rattle.md_schema.specs.Codes.{target_of}
+use Rattle.md_schema.specs.declared.faults.ImageFault.{ImageFault}
 use Rattle.md_schema.specs.declared.faults.ImageKind.{ImageKind}
 use Rattle.md_schema.specs.declared.faults.ImageKind.TheVariants.{BadTag}
 use Rattle.winmd_rows.specs.Faults.{Fault, fault}
-use Rattle.winmd_rows.specs.Heaps.{text_at, blob_at}
+use Rattle.md_heaps.specs.Reading.{text_at, blob_at}
 
 -- what a cell states
 pub data Value : Type 0 where
@@ -22,13 +23,14 @@ pub record Heaps : Type 0 where
   pub texts : List ℕ
   pub blobs : List ℕ
 
-abbrev pub text_value : Result (List ℕ) ImageKind → Result Value ImageKind
+-- what stands in a heap; a fault there is a fault of the cell, by its kind
+abbrev pub text_value : Result (List ℕ) ImageFault → Result Value ImageKind
 text_value (Ok text) = Ok (Text text)
-text_value (Err kind) = Err kind
+text_value (Err fault) = Err fault.kind
 
-abbrev pub blob_value : Result (List ℕ) ImageKind → Result Value ImageKind
-blob_value (Ok text) = Ok (Blob text)
-blob_value (Err kind) = Err kind
+abbrev pub blob_value : Result (List ℕ) ImageFault → Result Value ImageKind
+blob_value (Ok blob) = Ok (Blob blob)
+blob_value (Err fault) = Err fault.kind
 
 -- a coded index, by the table and the row that it names; row 0 stands for nothing
 abbrev pub choice : Option (Table × ℕ) → Result Value ImageKind

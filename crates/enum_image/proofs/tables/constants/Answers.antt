@@ -2,7 +2,8 @@ use Rattle.std.proofs.Common.{◌≡◌, ◌+◌, ◌*◌, ◌∷◌, [], ◌∙
 use Rattle.md_bytes.specs.Bytes.{le}
 use Rattle.md_schema.specs.declared.table.Table.TheVariants as tables
 use Rattle.md_schema.specs.Schema.{columns_of}
-use Rattle.winmd_rows.specs.Entries.{numbers_in_row, index_in, blob_entry}
+use Rattle.md_heaps.specs.Blobs.{blob_bytes}
+use Rattle.winmd_rows.specs.Entries.{numbers_in_row, index_in}
 use Rattle.winmd_rows.specs.Written.{constant_rows}
 use Rattle.enum_image.specs.declared.heap.Framing.TheVariants.{Blob}
 use Rattle.enum_image.proofs.RowLemmas.{constant_row, one_more_constant, no_more_rows}
@@ -13,7 +14,7 @@ loop-i-init c = λ entries h. rw c.new-rows.ensures.items refl
 
 pub loop-i-preserved : goal.loop-i-preserved
 loop-i-preserved c = λ entries h.
-    let e0 = c.place-value.ensures Blob entries.blobs h.blobs ∙ ap (index_in blob_entry 0 entries.blobs) (c.word.ensures ∙ ap (le 4) c.bits.ensures) in
+    let e0 = c.place-value.ensures Blob entries.blobs h.blobs ∙ ap (index_in blob_bytes 0 entries.blobs) (c.word.ensures ∙ ap (le 4) c.bits.ensures) in
     let N = numbers_in_row entries (columns_of tables.Constant) in
     let parent : (c.loop-i.i + 2) * 4 ≡ (2 + c.loop-i.i) * 4 + 0 = omega arith in
     let row : (8 ∷ 0 ∷ ((c.loop-i.i + 2) * 4) ∷ c.place-value.result ∷ []) ≡ N (constant_row (2 + c.loop-i.i) c.index-cases-i.result) = rw (parent, e0) refl in

@@ -2,7 +2,8 @@ use Rattle.std.proofs.Common.{◌≡◌, ◌∷◌, [], ◌∙◌, ap, map, refl
 use Rattle.wr_base.specs.declared.declaration.Case.{Case}
 use Rattle.md_schema.specs.declared.table.Table.TheVariants as tables
 use Rattle.md_schema.specs.Schema.{columns_of}
-use Rattle.winmd_rows.specs.Entries.{numbers_in_row, index_in, text_entry}
+use Rattle.md_heaps.specs.Texts.{text_bytes}
+use Rattle.winmd_rows.specs.Entries.{numbers_in_row, index_in}
 use Rattle.winmd_rows.specs.Written.{case_row}
 use Rattle.enum_image.specs.declared.heap.Framing.TheVariants.{Text, Blob}
 use Rattle.enum_image.proofs.RowLemmas.{map_map, one_more_row, no_more_rows}
@@ -16,7 +17,7 @@ loop-case-init c = λ entries h.
 
 pub loop-case-preserved : goal.loop-case-preserved
 loop-case-preserved c = λ entries h.
-    let e0 = c.place-name.ensures Text entries.texts h.texts ∙ ap (index_in text_entry 0 entries.texts) (c.as_bytes.ensures.value ∙ c.as_str.ensures) in
+    let e0 = c.place-name.ensures Text entries.texts h.texts ∙ ap (index_in text_bytes 0 entries.texts) (c.as_bytes.ensures.value ∙ c.as_str.ensures) in
     let e1 = c.place-case_signature.ensures Blob entries.blobs h.blobs in
     let F = λ (x : Case). numbers_in_row entries (columns_of tables.Field) (case_row x) in
     let row : (0x8056 ∷ c.place-name.result ∷ c.place-case_signature.result ∷ []) ≡ F c.case-item.result = rw (e0, e1) refl in
