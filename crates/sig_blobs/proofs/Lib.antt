@@ -1,2 +1,6 @@
+pub mod FaultLaws
+pub mod ModifierLaws
+pub mod SeveralLaws
 pub mod SignatureLaws
+pub mod TemplateLaws
 pub mod UseLaws

@@ -10,7 +10,7 @@ use Rattle.sig_blobs.specs.Canonical.{UseFits, ResultFits, SignatureFits, withou
 use Rattle.sig_blobs.specs.Elements.{by_ref}
 use Rattle.sig_blobs.specs.Reading.{◌>>=◌, several, integer, whole}
 use Rattle.sig_blobs.specs.Signatures.{use_alone, field_of, property_of, spec_of, method_of, signature_in, param_in, params_alone, result_in}
-use Rattle.sig_blobs.specs.Trees.{UseTree, plain, value, reference, instance, ParamTree, SignatureTree}
+use Rattle.wr_base.specs.Trees.{UseTree, plain, value, reference, instance, ParamTree, SignatureTree}
 use Rattle.sig_blobs.specs.Uses.{Meanings, behind_modifiers, use_within}
 use Rattle.sig_blobs.specs.Writing.{Numbers, use_bytes, field_bytes, property_bytes, spec_bytes, method_bytes, param_bytes, result_bytes}
 use Rattle.sig_blobs.proofs.UseLaws.{ReadsShortest, use_again, integer_again}

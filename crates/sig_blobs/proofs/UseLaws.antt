@@ -1,16 +1,17 @@
 -- A type that is written in a blob is read as that type.
-use Rattle.std.proofs.Common.{◌≡◌, ℕ, zero, suc, ◌-◌, ◌^◌, ◌<◌, true, ltb, List, [], ◌∷◌, ◌++◌, length, take, drop, Ok, refl, sym, ap, subst, ◌∙◌, append_assoc, arith, length-append}
+use Rattle.std.proofs.Common.{◌≡◌, ℕ, zero, suc, ◌-◌, ◌^◌, ◌<◌, true, ltb, List, ◌∷◌, ◌++◌, length, take, drop, Ok, refl, sym, ap, subst, ◌∙◌, append_assoc, arith, length-append}
 use Rattle.std.specs.Prelude.{bytes_eq}
 use Rattle.std.proofs.lemmas.Bool.{lt-ltb}
 use Rattle.std.proofs.lemmas.List.{take_at, drop_at}
 use Rattle.std.proofs.lemmas.Slice.Eq.{bytes_eq-Decides}
 use Rattle.wr_base.specs.declared.type_use.Base.TheVariants.{Boolean, Char, U8, I16, U16, I32, U32, I64, U64, Text, Guid, Object}
 use Rattle.wr_base.specs.Paths.{is_path}
+use Rattle.wr_base.proofs.TreeLaws.{uses_of-list_of}
 use Rattle.md_heaps.specs.Integers.{compressed_of, shortest}
 use Rattle.sig_blobs.specs.Canonical.{Leads, UseFits, UsesFit}
 use Rattle.sig_blobs.specs.Reading.{Reads, ◌>>=◌, integer, several}
 use Rattle.sig_blobs.specs.Templates.{suffix, template}
-use Rattle.sig_blobs.specs.Trees.{UseTree, plain, value, reference, instance, UseTrees, no_uses, use_and, uses_of, count_of}
+use Rattle.wr_base.specs.Trees.{UseTree, plain, value, reference, instance, UseTrees, no_uses, use_and, list_of, count_of}
 use Rattle.sig_blobs.specs.Uses.{Meanings, behind_modifiers, applied, token_name, without_count, counted_in, front_at, completed, use_within}
 use Rattle.sig_blobs.specs.Writing.{Numbers, use_bytes, uses_bytes}
 
@@ -24,14 +25,6 @@ integer_again law n rest lt = rw (law n rest lt, drop_at (shortest n) rest (leng
 
 token_again : ReadsShortest → (token : Numbers) (names : Meanings) (name rest : List ℕ) → Leads token names name → token_name names (shortest (token name) ++ rest) ≡ Ok (name, rest)
 token_again law token names name rest leads = rw (integer_again law (token name) rest leads.0, leads.1) refl
-
-abbrev pub list_of : UseTrees → List UseTree
-list_of no_uses = []
-list_of (use_and u us) = u ∷ list_of us
-
-uses_again_list : (us : UseTrees) → uses_of (list_of us) ≡ us
-uses_again_list no_uses = refl
-uses_again_list (use_and u us) = ap (use_and u) (uses_again_list us)
 
 counted : (bytes : List ℕ) (name : List ℕ) (count : ℕ) → 0 < count → is_path name ≡ true → without_count bytes count (template name count) ≡ Ok name
 counted bytes name count some path =
@@ -57,7 +50,7 @@ front_again law token names name count rest leads path some few =
 inst_again : (names : Meanings) (argument : Reads UseTree) (name : List ℕ) (arguments : UseTrees) (bytes behind rest : List ℕ) → counted_in names bytes ≡ Ok (applied name (count_of arguments), behind)
     → several argument (count_of arguments) behind ≡ Ok (list_of arguments, rest)
     → (front_at names (0x15 ∷ 0x12 ∷ bytes) >>= λ front. completed argument front.0 front.1) ≡ Ok (instance name arguments, rest)
-inst_again names argument name arguments bytes behind rest front all = rw (front, all, uses_again_list arguments) refl
+inst_again names argument name arguments bytes behind rest front all = rw (front, all, uses_of-list_of arguments) refl
 
 mutual
   unfolding use_within behind_modifiers

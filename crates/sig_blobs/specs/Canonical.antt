@@ -7,7 +7,7 @@ use Rattle.wr_base.specs.declared.type_use.Base.TheVariants.{Guid}
 use Rattle.sig_blobs.specs.Elements.{system_guid}
 use Rattle.sig_blobs.specs.Signatures.{field_of, property_of, spec_of, method_of}
 use Rattle.sig_blobs.specs.Templates.{template}
-use Rattle.sig_blobs.specs.Trees.{UseTree, plain, value, reference, instance, UseTrees, no_uses, use_and, count_of, ParamTree, SignatureTree}
+use Rattle.wr_base.specs.Trees.{UseTree, plain, value, reference, instance, UseTrees, no_uses, use_and, count_of, ParamTree, SignatureTree}
 use Rattle.sig_blobs.specs.Uses.{Meanings}
 use Rattle.sig_blobs.specs.Writing.{Numbers, field_bytes, property_bytes, spec_bytes, method_bytes}
 

@@ -1,9 +1,13 @@
 pub mod Attributes
 pub mod Canonical
 pub mod Elements
+pub mod Fronts
+pub mod Given
+pub mod Numbers
 pub mod Reading
+pub mod Several
 pub mod Signatures
 pub mod Templates
-pub mod Trees
+pub mod Tokens
 pub mod Uses
 pub mod Writing

@@ -1,9 +1,11 @@
 -- Reading at the front of a blob: what is read and the bytes behind it, or what is wrong and how many bytes are left from there on.
-use Rattle.std.specs.Prelude.{ℕ, zero, suc, ◌-◌, ◌==◌, List, [], ◌∷◌, length, drop, Result, Ok, Err, Bool, true, false, if◌then◌else◌}
+use Rattle.std.specs.Prelude.{ℕ, zero, suc, ◌-◌, ◌==◌, List, [], ◌∷◌, length, drop, Result, Ok, Err, if◌then◌else◌}
 use Rattle.md_schema.specs.declared.faults.ImageFault.{ImageFault}
 use Rattle.md_schema.specs.declared.faults.ImageKind.{ImageKind}
 use Rattle.md_schema.specs.declared.faults.ImageKind.TheVariants.{SigShort, SigElement, SigTail}
 use Rattle.md_heaps.specs.Integers.{compressed_of}
+use Rattle.ranked.specs.declared.stop.Stop.{Stop}
+use Rattle.ranked.specs.declared.stop.Stop.TheVariants.{Memory, Refused}
 use Rattle.sig_blobs.specs.declared.flaw.Flaw.{Flaw}
 
 abbrev pub Reads : Type 0 → Type 0
@@ -19,14 +21,16 @@ abbrev pub ◌>>=◌ : {A B : Type 0} → Result A Flaw → (A → Result B Flaw
 (Err e) >>= f = Err e
 
 -- the fault of a blob, at its offset there
+abbrev pub fault_in : List ℕ → Flaw → ImageFault
+fault_in blob e = record { kind = e.kind; offset = length blob - e.left }
+
 abbrev pub placed : {A : Type 0} → List ℕ → Result A Flaw → Result A ImageFault
 placed blob (Ok x) = Ok x
-placed blob (Err e) = Err (record { kind = e.kind; offset = length blob - e.left })
+placed blob (Err e) = Err (fault_in blob e)
 
--- a test that has to hold where these bytes begin
-abbrev pub checked : Bool → ImageKind → List ℕ → Result Bool Flaw
-checked true kind bytes = Ok true
-checked false kind bytes = flaw kind bytes
+abbrev pub stop_in : List ℕ → Stop Flaw → Stop ImageFault
+stop_in blob Memory = Memory
+stop_in blob (Refused e) = Refused (fault_in blob e)
 
 abbrev pub behind_integer : List ℕ → Result (ℕ × ℕ) ImageFault → Result (ℕ × List ℕ) Flaw
 behind_integer bytes (Ok (n, size)) = Ok (n, drop size bytes)

@@ -1,11 +1,11 @@
 -- Signatures as they are read (ECMA-335 II.23.2): what a blob spells, or its first fault and the fault's offset in the blob.
-use Rattle.std.specs.Prelude.{ℕ, ◌==◌, List, [], ◌∷◌, Option, Some, None, Result, Ok, if◌then◌else◌}
+use Rattle.std.specs.Prelude.{ℕ, ◌==◌, Bool, true, false, List, [], ◌∷◌, Option, Some, None, Result, Ok, if◌then◌else◌}
 use Rattle.md_schema.specs.declared.faults.ImageFault.{ImageFault}
 use Rattle.md_schema.specs.declared.faults.ImageKind.TheVariants.{SigShort}
 use Rattle.sig_blobs.specs.declared.flaw.Flaw.{Flaw}
 use Rattle.sig_blobs.specs.Elements.{void, by_ref}
 use Rattle.sig_blobs.specs.Reading.{Reads, flaw, ◌>>=◌, placed, integer, byte, several, whole}
-use Rattle.sig_blobs.specs.Trees.{UseTree, ParamTree, SignatureTree}
+use Rattle.wr_base.specs.Trees.{UseTree, ParamTree, SignatureTree}
 use Rattle.sig_blobs.specs.Uses.{Meanings, unmodified, use_at}
 
 -- a use and nothing behind it
@@ -46,11 +46,14 @@ type_or_void names (b ∷ bytes) = if b == void then Ok (None, bytes) else (use_
 abbrev pub result_in : Meanings → Reads (Option UseTree)
 result_in names bytes = unmodified bytes >>= λ rest. type_or_void names rest
 
--- a type, behind BYREF where the parameter is out (II.23.2.10); a signature has no names of parameters
+-- a signature has no names of parameters
+abbrev pub param_of_type : Meanings → Bool → Reads ParamTree
+param_of_type names out bytes = use_at names bytes >>= λ read. Ok (record { name = []; out = out; kind = read.0 }, read.1)
+
+-- a type, behind BYREF where the parameter is out (II.23.2.10)
 abbrev pub param_behind : Meanings → Reads ParamTree
 param_behind names [] = flaw SigShort []
-param_behind names (b ∷ bytes) =
-    use_at names (if b == by_ref then bytes else b ∷ bytes) >>= λ read. Ok (record { name = []; out = b == by_ref; kind = read.0 }, read.1)
+param_behind names (b ∷ bytes) = if b == by_ref then param_of_type names true bytes else param_of_type names false (b ∷ bytes)
 
 abbrev pub param_in : Meanings → Reads ParamTree
 param_in names bytes = unmodified bytes >>= λ rest. param_behind names rest

@@ -1,5 +1,5 @@
 -- Type uses as they are read (ECMA-335 II.23.2.12): integers of any form, modifiers passed over.
-use Rattle.std.specs.Prelude.{ℕ, zero, suc, ◌-◌, ◌==◌, nat_lt, bytes_eq, List, [], ◌∷◌, length, take, drop, Option, Some, None, Result, Ok, Err, if◌then◌else◌}
+use Rattle.std.specs.Prelude.{ℕ, zero, suc, ◌-◌, ◌==◌, nat_lt, bytes_eq, Bool, false, List, [], ◌∷◌, length, take, drop, Option, Some, None, Result, Ok, Err, if◌then◌else◌}
 use Rattle.md_schema.specs.declared.faults.ImageKind.{ImageKind}
 use Rattle.md_schema.specs.declared.faults.ImageKind.TheVariants.{BadShape, SigShort, SigElement, SigDeep, FloatType}
 use Rattle.wr_base.specs.Paths.{is_path}
@@ -7,15 +7,19 @@ use Rattle.wr_base.specs.declared.type_use.Base.{Base}
 use Rattle.wr_base.specs.declared.type_use.Base.TheVariants as bases
 use Rattle.sig_blobs.specs.declared.flaw.Flaw.{Flaw}
 use Rattle.sig_blobs.specs.Elements.{value_type, class, generic_inst, is_float, is_modifier, system_guid, base_of}
-use Rattle.sig_blobs.specs.Reading.{Reads, flaw, ◌>>=◌, checked, integer, byte, several}
+use Rattle.sig_blobs.specs.Reading.{Reads, flaw, ◌>>=◌, integer, byte, several}
 use Rattle.sig_blobs.specs.Templates.{suffix}
-use Rattle.sig_blobs.specs.Trees.{UseTree, plain, value, reference, instance, uses_of}
+use Rattle.wr_base.specs.Trees.{UseTree, plain, value, reference, instance, uses_of}
 
 -- The full name of the type that a number stands for, or why there is none.
 abbrev pub Meanings : Type 0
 Meanings = ℕ → Result (List ℕ) ImageKind
 
 -- ---- modifiers (II.23.2.7)
+
+abbrev pub begins_modifier : List ℕ → Bool
+begins_modifier [] = false
+begins_modifier (b ∷ bytes) = is_modifier b
 
 -- any modifiers, each with a token that isn't looked up; there are no more of them than this
 unfoldable pub behind_modifiers : ℕ → List ℕ → Result (List ℕ) Flaw
@@ -47,16 +51,17 @@ path_of bytes name = if is_path name then Ok name else flaw BadShape bytes
 abbrev pub value_of : List ℕ → List ℕ → Result UseTree Flaw
 value_of bytes name = if bytes_eq name system_guid then Ok (plain bases.Guid) else (path_of bytes name >>= λ path. Ok (value path))
 
--- where the suffix of so many arguments begins, if the name ends with it
-abbrev pub suffix_at : ℕ → List ℕ → ℕ
-suffix_at count name = length name - length (suffix count)
+-- a text without what it ends with, if it does
+abbrev pub stripped : List ℕ → List ℕ → Option (List ℕ)
+stripped end text = if bytes_eq (drop (length text - length end) text) end then Some (take (length text - length end) text) else None
 
--- a template's name without the suffix with which it ends, where it has arguments
+abbrev pub template_of : List ℕ → Option (List ℕ) → Result (List ℕ) Flaw
+template_of bytes None = flaw SigElement bytes
+template_of bytes (Some name) = path_of bytes name
+
+-- a template's name without the number of arguments with which it ends, where there are some
 abbrev pub without_count : List ℕ → ℕ → List ℕ → Result (List ℕ) Flaw
-without_count bytes count name = do
-  some ← checked (nat_lt 0 count) SigElement bytes
-  ends ← checked (bytes_eq (drop (suffix_at count name) name) (suffix count)) SigElement bytes
-  path_of bytes (take (suffix_at count name) name)
+without_count bytes count name = if nat_lt 0 count then template_of bytes (stripped (suffix count) name) else flaw SigElement bytes
 
 -- ---- uses
 
@@ -89,14 +94,17 @@ counted_in names bytes = do
 abbrev pub template_in : Meanings → Reads Front
 template_in names bytes = byte class bytes >>= λ rest. counted_in names rest
 
+-- why an element isn't allowed where a type stands
+abbrev pub refusal : ℕ → ImageKind
+refusal b = if is_float b then FloatType else SigElement
+
 -- behind an element that isn't a base type's
 abbrev pub other_front : Meanings → ℕ → Reads Front
 other_front names b bytes =
     if b == value_type then value_in names bytes
     else if b == class then reference_in names bytes
     else if b == generic_inst then template_in names bytes
-    else if is_float b then flaw FloatType (b ∷ bytes)
-    else flaw SigElement (b ∷ bytes)
+    else flaw (refusal b) (b ∷ bytes)
 
 abbrev pub front_behind : Meanings → Option Base → ℕ → Reads Front
 front_behind names (Some base) b bytes = Ok (alone (plain base), bytes)

@@ -6,7 +6,7 @@ use Rattle.wr_base.specs.declared.type_use.Base.{Base}
 use Rattle.wr_base.specs.declared.type_use.Base.TheVariants.{Guid}
 use Rattle.sig_blobs.specs.Elements.{void, by_ref, value_type, class, generic_inst, element_of, system_guid}
 use Rattle.sig_blobs.specs.Templates.{template}
-use Rattle.sig_blobs.specs.Trees.{UseTree, plain, value, reference, instance, UseTrees, no_uses, use_and, count_of, ParamTree, SignatureTree}
+use Rattle.wr_base.specs.Trees.{UseTree, plain, value, reference, instance, UseTrees, no_uses, use_and, count_of, ParamTree, SignatureTree}
 
 -- The number that stands for a type of a full name: a TypeDefOrRef coded index (II.24.2.6), compressed where it is written (II.23.2.8).
 abbrev pub Numbers : Type 0

@@ -1,7 +1,7 @@
 //! What is canonical spells, and a blob spells at most one item.
 
 ghost use Rattle.std.specs.Prelude.{◌≡◌, ℕ, List};
-ghost use Rattle.sig_blobs.specs.Trees.{UseTree, SignatureTree};
+ghost use Rattle.wr_base.specs.Trees.{UseTree, SignatureTree};
 ghost use Rattle.sig_blobs.specs.Uses.{Meanings};
 ghost use Rattle.sig_blobs.specs.Writing.{Numbers};
 ghost use Rattle.sig_blobs.specs.Canonical.{UseFits, SignatureFits, without_names, CanonicalField, CanonicalProperty, CanonicalSpec, CanonicalMethod, SpellsField, SpellsProperty, SpellsSpec, SpellsMethod};

@@ -2,8 +2,25 @@
 #![tactic(auto)]
 
 mod argument;
+mod elements;
+mod faults;
 mod flaw;
+mod front;
+mod fronts;
+mod integers;
 mod laws;
+mod methods;
+mod modifiers;
+mod names;
+mod numbered;
+mod reading;
+mod templates;
+mod token_names;
+mod tokens;
+mod uses;
 
 pub use argument::{Argument, ArgumentKind};
 pub use laws::{canonical_spells, spells_one};
+pub use reading::{field_of, method_of, property_of, spec_of};
+pub use token_names::{RowName, TokenNames};
+pub use tokens::Tokens;

@@ -1,0 +1,38 @@
+//! How numbers of types are made known and looked up.
+
+ghost use Rattle.std.specs.Prelude.{◌≡◌, ◌++◌, ℕ, List, OnOk, string_bytes, bytes_eq, if◌then◌else◌};
+ghost use Rattle.sig_blobs.specs.Numbers.{number_in};
+
+use crate::tokens::Tokens;
+use ranked::Memory;
+use std::alloc::Global;
+use std::collections::BTreeMap;
+
+impl Tokens {
+    /// No type has a number.
+    pub fn new(alloc: Global) -> Tokens
+        ensures { (name : List ℕ) → number_in result name ≡ 0 }
+    {
+        Tokens {
+            numbers: BTreeMap::new(alloc),
+        }
+    }
+
+    /// From now on the number stands for the type of this name.
+    pub fn add(&mut self, name: String, number: u32) -> Result<(), Memory>
+        ensures { OnOk result ((other : List ℕ) → number_in self.new other ≡ (if bytes_eq other (string_bytes name) then number else number_in self.old other)) }
+    {
+        self.numbers.insert(name, number)?;
+        Ok(())
+    }
+
+    /// The number of the type of this name, which is 0 where there is none.
+    pub fn number(&self, name: &str) -> u32
+        ensures { result ≡ number_in self.now name.now }
+    {
+        match self.numbers.get(name) {
+            Some(number) => *number,
+            None => 0,
+        }
+    }
+}

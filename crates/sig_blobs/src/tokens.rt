@@ -1,0 +1,12 @@
+//! The number that stands for each type name where signatures are written.
+
+use ranked::Memory;
+use std::alloc::Global;
+use std::collections::BTreeMap;
+
+/// The TypeDefOrRef coded index of each type (ECMA-335 II.24.2.6), by full name; a template's ends with a back quote and the number
+/// of its arguments.
+#[derive(Drop)]
+pub struct Tokens {
+    pub(crate) numbers: BTreeMap<String, u32>,
+}
