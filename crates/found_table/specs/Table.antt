@@ -1,6 +1,8 @@
 -- The found types, all in Windows.Foundation (Windows Runtime type system).
-use Rattle.std.specs.Prelude.{ℕ, List, [], ◌∷◌, ◌++◌, Option, Some, None, codes, if◌then◌else◌}
+use Rattle.std.specs.Prelude.{ℕ, Bool, List, [], ◌∷◌, ◌++◌, Option, Some, None, codes, if◌then◌else◌}
+use Rattle.std.specs.List.{list_any}
 use Rattle.std.specs.Str.{bytes_eq}
+use Rattle.wr_base.specs.Lower.{lower}
 use Rattle.wr_base.specs.declared.type_use.Base.TheVariants as bases
 use Rattle.found_table.specs.Found.{FoundUseRow, FoundPartRow, FoundMemberRow, FoundRow}
 
@@ -44,3 +46,7 @@ row_of (row ∷ rows) name = if bytes_eq name (name_of row) then Some row else r
 -- the found type of this full name
 abbrev pub builtin : List ℕ → Option FoundRow
 builtin name = row_of table name
+
+-- a found type has this full name, but for ASCII case
+unfoldable pub is_found : List ℕ → Bool
+is_found name = list_any (λ row. bytes_eq (lower name) (lower (name_of row))) table

@@ -1,3 +1,9 @@
+//! A found type, and what it is made of.
+
+ghost use Rattle.std.specs.Prelude.{◌≡◌};
+ghost use Rattle.found_table.specs.Views.{found_view};
+ghost use Rattle.found_table.specs.Table.{name_of};
+
 use wr_base::Base;
 
 /// What stands where a type is wanted in a found type.
@@ -53,4 +59,17 @@ pub enum Found {
         id: u128,
         params: &'static [FoundPart],
     },
+}
+
+impl Found {
+    /// The full name, without arguments.
+    pub fn name(&self) -> &'static str
+        ensures { result.now ≡ name_of (found_view self.now) }
+    {
+        match self {
+            Found::Struct { name, .. } => *name,
+            Found::Interface { name, .. } => *name,
+            Found::Delegate { name, .. } => *name,
+        }
+    }
 }

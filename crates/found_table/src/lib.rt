@@ -6,4 +6,4 @@ mod found;
 mod table;
 
 pub use found::{Found, FoundMember, FoundPart, FoundUse};
-pub use table::builtin;
+pub use table::{builtin, is_found};

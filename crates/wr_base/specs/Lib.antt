@@ -1,5 +1,6 @@
 pub mod Codes
 pub mod Declarations
+pub mod Lower
 pub mod Paths
 pub mod Parts
 pub mod Uses

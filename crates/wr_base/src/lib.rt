@@ -10,6 +10,7 @@ mod full_name;
 mod ids;
 mod laws;
 mod listed;
+mod lower;
 mod places;
 mod same;
 mod same_declaration;
@@ -25,6 +26,7 @@ pub use full_name::{FullName, tests_identifier, tests_short_name, tests_short_pa
 pub use ids::{Ids, UseId};
 pub use laws::{told_by_trees, words_of_bases};
 pub use listed::Listed;
+pub use lower::lowered;
 pub use places::{DeclPlaces, PlaceList, PlacedTypes, Places};
 pub use ranked::{Memory, Name, Place, Rank, Stop};
 pub use same::Same;
