@@ -1,0 +1,13 @@
+pub mod Kinds
+pub mod Sites
+pub mod Members
+pub mod Closures
+pub mod Signatures
+pub mod Uses
+pub mod UseRules
+pub mod MemberRules
+pub mod ListRules
+pub mod FactoryRules
+pub mod NameRules
+pub mod Limits
+pub mod Accepted
