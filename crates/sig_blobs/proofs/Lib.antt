@@ -4,3 +4,4 @@ pub mod SeveralLaws
 pub mod SignatureLaws
 pub mod TemplateLaws
 pub mod UseLaws
+pub mod WriteLaws

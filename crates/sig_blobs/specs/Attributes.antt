@@ -1,10 +1,10 @@
 -- Values of attributes (ECMA-335 II.23.3): the prolog 01 00, the constructor's arguments, and no named ones.
-use Rattle.std.specs.Prelude.{ℕ, ◌/◌, ◌%◌, ◌^◌, ◌==◌, ◌&&◌, nat_lt, List, [], ◌∷◌, ◌++◌, length, take, drop, position, Option, Some, None, Result, Ok, Err, if◌then◌else◌}
-use Rattle.std.specs.List.{flat_map}
+use Rattle.std.specs.Prelude.{ℕ, ◌/◌, ◌%◌, ◌^◌, ◌==◌, ◌&&◌, nat_lt, List, [], ◌∷◌, ◌++◌, length, take, drop, Option, Some, None, Result, Ok, Err, if◌then◌else◌}
+use Rattle.std.specs.List.{flat_map, before_first}
 use Rattle.std.specs.Str.{is_utf8}
 use Rattle.byteorder.specs.Endian.{little_bytes, little_number, big_bytes}
-use Rattle.md_heaps.specs.Guids.{guid_number}
 use Rattle.md_heaps.specs.Integers.{compressed_of, shortest}
+use Rattle.md_heaps.specs.Reading.{guid_at}
 use Rattle.md_schema.specs.declared.faults.ImageFault.{ImageFault}
 use Rattle.md_schema.specs.declared.faults.ImageKind.TheVariants.{BadShape}
 use Rattle.wr_base.specs.Paths.{is_path}
@@ -42,8 +42,13 @@ behind_prolog (a ∷ b ∷ bytes) = if a == 1 && b == 0 then Some bytes else Non
 abbrev pub number_in : List ℕ → Option Argument
 number_in bytes = if nat_lt (length bytes) 4 then None else Some (arguments.Number (little_number 4 bytes))
 
+-- a Guid's numbers stand as the sixteen bytes of a GUID in a heap do
+abbrev pub id_of : Result ℕ ImageFault → Option Argument
+id_of (Ok id) = Some (arguments.Id id)
+id_of (Err fault) = None
+
 abbrev pub id_in : List ℕ → Option Argument
-id_in bytes = if nat_lt (length bytes) 16 then None else Some (arguments.Id (guid_number bytes))
+id_in bytes = id_of (guid_at bytes 1)
 
 abbrev pub first_bytes : ℕ → List ℕ → Option (List ℕ)
 first_bytes count bytes = if nat_lt (length bytes) count then None else Some (take count bytes)
@@ -52,22 +57,21 @@ abbrev pub text_behind : List ℕ → Result (ℕ × ℕ) ImageFault → Option 
 text_behind bytes (Err fault) = None
 text_behind bytes (Ok (count, size)) = first_bytes count (drop size bytes)
 
+abbrev pub utf8_of : Option (List ℕ) → Option (List ℕ)
+utf8_of None = None
+utf8_of (Some text) = if is_utf8 text then Some text else None
+
 -- a text behind its length, which may have any form
 abbrev pub text_in : List ℕ → Option (List ℕ)
-text_in bytes = text_behind bytes (compressed_of bytes)
+text_in bytes = utf8_of (text_behind bytes (compressed_of bytes))
 
 abbrev pub words_of : Option (List ℕ) → Option Argument
 words_of None = None
-words_of (Some text) = if is_utf8 text then Some (arguments.Words text) else None
+words_of (Some text) = Some (arguments.Words text)
 
--- the front of a text, up to a place if there is one
-abbrev pub up_to : List ℕ → Option ℕ → List ℕ
-up_to text None = text
-up_to text (Some at) = take at text
-
--- an assembly may follow a type's name, behind a comma
+-- a type's name ends at the first comma, behind which an assembly may stand
 abbrev pub before_comma : List ℕ → List ℕ
-before_comma text = up_to text (position (λ b. b == 44) text)
+before_comma text = before_first (λ b. b == 44) text
 
 abbrev pub path_of : List ℕ → Option Argument
 path_of name = if is_path name then Some (arguments.TypeName name) else None

@@ -1,5 +1,5 @@
 -- The elements of signatures (ECMA-335 II.23.1.16).
-use Rattle.std.specs.Prelude.{ℕ, ◌==◌, ◌||◌, Bool, List, [], ◌∷◌, codes, Option, Some, None, if◌then◌else◌}
+use Rattle.std.specs.Prelude.{ℕ, ◌==◌, ◌||◌, Bool, true, false, List, [], ◌∷◌, codes, Option, Some, None, if◌then◌else◌}
 use Rattle.wr_base.specs.declared.type_use.Base.{Base}
 use Rattle.wr_base.specs.declared.type_use.Base.TheVariants.{Boolean, Char, U8, I16, U16, I32, U32, I64, U64, Text, Guid, Object}
 
@@ -40,6 +40,10 @@ element_of U64 = 0x0B
 element_of Text = 0x0E
 element_of Guid = value_type
 element_of Object = 0x1C
+
+abbrev pub is_guid : Base → Bool
+is_guid Guid = true
+is_guid _ = false
 
 abbrev pub system_guid : List ℕ
 system_guid = codes "System.Guid"

@@ -3,8 +3,7 @@ use Rattle.std.specs.Prelude.{ℕ, List, [], ◌∷◌, ◌++◌, length, Option
 use Rattle.std.specs.List.{flat_map}
 use Rattle.md_heaps.specs.Integers.{shortest}
 use Rattle.wr_base.specs.declared.type_use.Base.{Base}
-use Rattle.wr_base.specs.declared.type_use.Base.TheVariants.{Guid}
-use Rattle.sig_blobs.specs.Elements.{void, by_ref, value_type, class, generic_inst, element_of, system_guid}
+use Rattle.sig_blobs.specs.Elements.{void, by_ref, value_type, class, generic_inst, element_of, is_guid, system_guid}
 use Rattle.sig_blobs.specs.Templates.{template}
 use Rattle.wr_base.specs.Trees.{UseTree, plain, value, reference, instance, UseTrees, no_uses, use_and, count_of, ParamTree, SignatureTree}
 
@@ -15,16 +14,18 @@ Numbers = List ℕ → ℕ
 -- ---- a type use (II.23.2.12)
 
 abbrev pub base_bytes : Numbers → Base → List ℕ
-base_bytes token Guid = value_type ∷ shortest (token system_guid)
-base_bytes token base = element_of base ∷ []
+base_bytes token base = if is_guid base then value_type ∷ shortest (token system_guid) else element_of base ∷ []
+
+-- a template and how many arguments follow
+abbrev pub template_bytes : Numbers → List ℕ → ℕ → List ℕ
+template_bytes token name count = generic_inst ∷ class ∷ shortest (token (template name count)) ++ shortest count
 
 abbrev mutual
   pub use_bytes : Numbers → UseTree → List ℕ
   use_bytes token (plain base) = base_bytes token base
   use_bytes token (value name) = value_type ∷ shortest (token name)
   use_bytes token (reference name) = class ∷ shortest (token name)
-  use_bytes token (instance name arguments) =
-      generic_inst ∷ class ∷ shortest (token (template name (count_of arguments))) ++ shortest (count_of arguments) ++ uses_bytes token arguments
+  use_bytes token (instance name arguments) = template_bytes token name (count_of arguments) ++ uses_bytes token arguments
 
   pub uses_bytes : Numbers → UseTrees → List ℕ
   uses_bytes token no_uses = []

@@ -13,14 +13,18 @@ mod methods;
 mod modifiers;
 mod names;
 mod numbered;
+mod put;
+mod put_uses;
 mod reading;
 mod templates;
 mod token_names;
 mod tokens;
 mod uses;
+mod writing;
 
 pub use argument::{Argument, ArgumentKind};
 pub use laws::{canonical_spells, spells_one};
 pub use reading::{field_of, method_of, property_of, spec_of};
 pub use token_names::{RowName, TokenNames};
 pub use tokens::Tokens;
+pub use writing::{put_field, put_method, put_property, put_spec};

@@ -14,7 +14,7 @@ use std::alloc::Global;
 use wr_base::FullName;
 
 #[tactic(auto, using(crate::proofs::TemplateLaws::decimal_is))]
-fn suffix(alloc: Global, count: u32) -> Result<String, Memory>
+fn suffix(alloc: Global, count: usize) -> Result<String, Memory>
     ensures { IfOk result (λ text. string_bytes text ≡ templates.suffix count) }
 {
     format!(in alloc; "`{count}")
@@ -28,7 +28,7 @@ fn stripped<'a>(end: &str, text: &'a str) -> Option<&'a str>
 }
 
 /// The name of a template that takes so many arguments.
-pub(crate) fn template(alloc: Global, name: &FullName, count: u32) -> Result<String, Memory>
+pub(crate) fn template(alloc: Global, name: &FullName, count: usize) -> Result<String, Memory>
     ensures { IfOk result (λ text. string_bytes text ≡ templates.template name.now count) }
 {
     let mut text = String::from_str(alloc, name.as_str())?;
@@ -49,7 +49,7 @@ pub(crate) fn without_count(
     if count == 0 {
         return Err(flaw_at(ImageKind::SigElement, bytes));
     }
-    let end = suffix(alloc, count)?;
+    let end = suffix(alloc, count as usize)?;
     match stripped(end.as_str(), name) {
         Some(name) => path(alloc, bytes, name),
         None => Err(flaw_at(ImageKind::SigElement, bytes)),
