@@ -57,9 +57,12 @@ abbrev pub text_behind : List ℕ → Result (ℕ × ℕ) ImageFault → Option 
 text_behind bytes (Err fault) = None
 text_behind bytes (Ok (count, size)) = first_bytes count (drop size bytes)
 
+abbrev pub utf8_text : List ℕ → Option (List ℕ)
+utf8_text text = if is_utf8 text then Some text else None
+
 abbrev pub utf8_of : Option (List ℕ) → Option (List ℕ)
 utf8_of None = None
-utf8_of (Some text) = if is_utf8 text then Some text else None
+utf8_of (Some text) = utf8_text text
 
 -- a text behind its length, which may have any form
 abbrev pub text_in : List ℕ → Option (List ℕ)

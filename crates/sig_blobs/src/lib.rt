@@ -2,6 +2,7 @@
 #![tactic(auto)]
 
 mod argument;
+mod attributes;
 mod elements;
 mod faults;
 mod flaw;
@@ -14,6 +15,7 @@ mod modifiers;
 mod names;
 mod numbered;
 mod put;
+mod put_arguments;
 mod put_uses;
 mod reading;
 mod templates;
@@ -23,7 +25,9 @@ mod uses;
 mod writing;
 
 pub use argument::{Argument, ArgumentKind};
+pub use attributes::first_argument;
 pub use laws::{canonical_spells, spells_one};
+pub use put_arguments::put_attribute;
 pub use reading::{field_of, method_of, property_of, spec_of};
 pub use token_names::{RowName, TokenNames};
 pub use tokens::Tokens;
