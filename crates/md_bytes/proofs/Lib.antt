@@ -1,2 +1,3 @@
 pub mod StandsLemmas
 pub mod NumberLemmas
+pub mod ZeroLemmas

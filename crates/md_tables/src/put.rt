@@ -23,7 +23,7 @@ pub fn put_row(
         if i >= cells.len() {
             return Ok(());
         }
-        put_number(out, width(sizes, columns[i]), cells[i])?;
+        put_number(out, width(sizes, columns[i]), cells[i] as u64)?;
     }
     Ok(())
 }

@@ -112,7 +112,7 @@ fn put_counts(out: &mut Vec<u8>, rows: &[u32]) -> Result<(), AllocError>
 {
     for n in 0..rows.len() {
         if rows[n] > 0 {
-            put_number(out, 4, rows[n])?;
+            put_number(out, 4, rows[n] as u64)?;
         }
     }
     Ok(())

@@ -1,0 +1,11 @@
+pub mod Faults
+pub mod Found
+pub mod Parts
+pub mod Pe
+pub mod Root
+pub mod Slices
+pub mod Spelled
+pub mod Seen
+pub mod Noting
+pub mod Taken
+pub mod Laws
