@@ -1,10 +1,10 @@
 #!/bin/sh
 # Times `winrt midl` on a source of 4 MiB: spaces, and at its end a namespace with an enum of 200 cases.
 # Prints the seconds and the memory of the best of five runs, and the ratios to `wc -c` and to a plain read of the file.
-# Needs bash, GNU time (/usr/bin/time) and awk, and the program, which `./winrt` builds.
+# Needs bash, GNU time (/usr/bin/time) and awk, and the program, which `./winrt --prove` builds.
 top=$(CDPATH='' cd -- "$(dirname -- "$0")/.." && pwd) || exit 1
 program=$top/crates/winrt/out/winrt
-[ -x "$program" ] || { echo "bench/enum.sh: build the program first, by ./winrt" >&2; exit 1; }
+[ -x "$program" ] || { echo "bench/enum.sh: build the program first, by ./winrt --prove" >&2; exit 1; }
 room=$(mktemp -d) || exit 1
 trap 'rm -rf "$room"' EXIT
 cd "$room" || exit 1

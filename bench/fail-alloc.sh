@@ -1,10 +1,10 @@
 #!/bin/sh
 # Lets each allocation of the built program fail in turn, over a source, a missing file, an import, a set that isn't compiled yet, and sources that
 # are refused by names, by parsing and by lexing: each run must end with 6 and nothing on the standard error, or with the right status, text and image.
-# Needs cc and glibc, and the program, which `./winrt` builds.
+# Needs cc and glibc, and the program, which `./winrt --prove` builds.
 top=$(CDPATH='' cd -- "$(dirname -- "$0")/.." && pwd) || exit 1
 program=$top/crates/winrt/out/winrt
-[ -x "$program" ] || { echo "bench/fail-alloc.sh: build the program first, by ./winrt" >&2; exit 1; }
+[ -x "$program" ] || { echo "bench/fail-alloc.sh: build the program first, by ./winrt --prove" >&2; exit 1; }
 room=$(mktemp -d) || exit 1
 trap 'rm -rf "$room"' EXIT
 cd "$room" || exit 1
