@@ -1,0 +1,5 @@
+pub mod LineLaws
+pub mod OwnerLaws
+pub mod SortLaws
+pub mod SettleLaws
+pub mod IntegerLaws

@@ -1,0 +1,30 @@
+-- The definitions at worked examples, by computing.
+use Rattle.winmd_rows.specs.Spelled.{zeros, dos_header, file_header, optional_header, section_header, cli_header, root_head, stream_heads, metadata}
+use Rattle.winmd_rows.specs.Images.{parts_with, entries_for}
+use Rattle.winmd_rows.specs.Spelled.{image_bytes}
+use Rattle.winmd_rows.specs.Values.{stated}
+use Rattle.std.proofs.Common.{◌≡◌, Ok, refl}
+use Rattle.md_schema.specs.Written.{table_head}
+use Rattle.sig_blobs.specs.Reading.{integer}
+use Rattle.sig_blobs.specs.Templates.{decimal_of}
+use Rattle.sig_blobs.specs.Uses.{behind_modifiers, use_within}
+use Rattle.winmd_sets.specs.Rows.{rows_of}
+use Rattle.winmd_sets.specs.Examples.{reading}
+use Rattle.winmd_sets.specs.Shop.{shop, shop_image}
+use Rattle.winmd_sets.specs.Mix.{mix, mix_image}
+
+pub shop_written : image_bytes (parts_with (entries_for (rows_of shop)) (rows_of shop)) ≡ shop_image
+unfolding decimal_of zeros dos_header file_header optional_header section_header cli_header root_head stream_heads metadata table_head shop_image
+shop_written = refl
+
+pub mix_written : image_bytes (parts_with (entries_for (rows_of mix)) (rows_of mix)) ≡ mix_image
+unfolding decimal_of zeros dos_header file_header optional_header section_header cli_header root_head stream_heads metadata table_head mix_image
+mix_written = refl
+
+pub shop_read : reading (stated (rows_of shop)) ≡ Ok shop
+unfolding decimal_of integer behind_modifiers use_within
+shop_read = refl
+
+pub mix_read : reading (stated (rows_of mix)) ≡ Ok mix
+unfolding decimal_of integer behind_modifiers use_within
+mix_read = refl

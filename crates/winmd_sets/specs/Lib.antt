@@ -1,0 +1,17 @@
+pub mod Values
+pub mod Members
+pub mod Declared
+pub mod Rows
+pub mod Blobs
+pub mod Uses
+pub mod Attributes
+pub mod Fields
+pub mod Methods
+pub mod Interfaces
+pub mod Classes
+pub mod Types
+pub mod Fits
+pub mod LineShapes
+pub mod Shop
+pub mod Mix
+pub mod Examples
