@@ -1,0 +1,265 @@
+//! The signature of a use, written from left to right. What is left to write stands on a stack, so that structs may nest at any depth.
+
+ghost use Rattle.std.specs.Prelude.{◌≡◌, ◌++◌, ◌∷◌, [], ◌<◌, Some, None, IfOk, OnOk, option_map, length, map, slice_get, string_bytes};
+ghost use Rattle.found_table.specs.Views.{found_view, part_view};
+ghost use Rattle.wr_base.specs.Declarations.{IsInOrder};
+ghost use Rattle.wr_rules.specs.Kinds as kinds;
+ghost use Rattle.wr_base.specs.Trees.{tree_of};
+ghost use Rattle.wr_rules.specs.Signatures.{declared_pieces, found_pieces, meaning_pieces, level_pieces, found_piece, signature_text};
+ghost use Rattle.pinterface_id.specs.Stack.{part, items_of, names_open, rest, Opened, Moved, Entered, deeper, template_id, item_of};
+ghost use Rattle.pinterface_id.specs.Progress.{Advanced};
+ghost use Rattle.pinterface_id.specs.Found.{FoundWritten, PartWritten};
+ghost use Rattle.pinterface_id.specs.Views.{meaning_view};
+
+use crate::meaning::{Meaning, named};
+use crate::pieces::{base_text, flags_text, push_braced, push_head, push_id_head};
+use crate::stack::Work;
+use found_table::{Found, FoundPart, FoundUse};
+use std::alloc::{AllocError, Global};
+use wr_base::{Declaration, Field, FullName, TypeUse, Types};
+
+fn push_found_part(text: &mut String, part: &FoundPart) -> Result<bool, AllocError>
+    ensures { IfOk result (λ fine. PartWritten fine (found_piece (part_view part.now).type_) (string_bytes text.old) (string_bytes text.new)) }
+{
+    match part.ty {
+        FoundUse::Plain(base) => {
+            text.push_str(";")?;
+            text.push_str(base_text(base))?;
+            Ok(true)
+        }
+        FoundUse::Named(_) => Ok(false),
+        FoundUse::Argument(_) => Ok(false),
+    }
+}
+
+fn push_found(text: &mut String, found: &Found) -> Result<bool, AllocError>
+    ensures { IfOk result (λ fine. FoundWritten fine (found_pieces [] (λ inside u. []) [] (found_view found.now)) (string_bytes text.old) (string_bytes text.new)) }
+{
+    match found {
+        Found::Struct { name, fields } => {
+            push_head(text, "struct", name)?;
+            for part in *fields {
+                if !push_found_part(text, part)? {
+                    return Ok(false);
+                }
+            }
+            text.push_str(")")?;
+            Ok(true)
+        }
+        Found::Interface { id, .. } => {
+            push_braced(text, *id)?;
+            Ok(true)
+        }
+        Found::Delegate { id, .. } => {
+            push_id_head(text, "delegate", *id)?;
+            text.push_str(")")?;
+            Ok(true)
+        }
+    }
+}
+
+fn push_fields<'a>(stack: &mut Vec<Work<'a>>, fields: &'a [Field]) -> Result<(), AllocError>
+    ensures { OnOk result (items_of stack.new.items ≡ map part (map tree_of (map (λ f. f.ty) fields.now)) ++ items_of stack.old.items) }
+{
+    let mut left = fields.len();
+    'more: while left > 0 {
+        left -= 1;
+        stack.push(Work::Part(&fields[left].ty))?;
+    }
+    Ok(())
+}
+
+fn push_uses<'a>(stack: &mut Vec<Work<'a>>, uses: &'a [TypeUse]) -> Result<(), AllocError>
+    ensures { OnOk result (items_of stack.new.items ≡ map part (map tree_of uses.now) ++ items_of stack.old.items) }
+{
+    let mut left = uses.len();
+    'more: while left > 0 {
+        left -= 1;
+        stack.push(Work::Part(&uses[left]))?;
+    }
+    Ok(())
+}
+
+fn enter_declared<'a>(
+    types: &'a Types,
+    flags: &mut [bool],
+    stack: &mut Vec<Work<'a>>,
+    text: &mut String,
+    i: u32,
+    declaration: &'a Declaration,
+) -> Result<(), AllocError>
+    requires order { IsInOrder types.now }
+    requires at { slice_get types.now i ≡ Some declaration.now }
+    requires opened { Opened types.now flags.old (items_of stack.old.items) }
+    ensures { OnOk result (let st = items_of stack.old.items in let inside = names_open types.now st in Moved types.now (declared_pieces types.now (deeper types.now inside) inside declaration.now ++ rest types.now st) flags.new (items_of stack.new.items) (string_bytes text.old) (string_bytes text.new)) }
+{
+    match declaration {
+        Declaration::Enum {
+            name,
+            flags: is_flags,
+            ..
+        } => {
+            push_head(text, "enum", name.as_str())?;
+            text.push_str(";")?;
+            text.push_str(flags_text(*is_flags))?;
+            text.push_str(")")?;
+            Ok(())
+        }
+        Declaration::Struct { name, fields, .. } => {
+            push_head(text, "struct", name.as_str())?;
+            if flags[i as usize] {
+                text.push_str(")")?;
+                return Ok(());
+            }
+            flags[i as usize] = true;
+            stack.push(Work::Leave(i))?;
+            push_fields(stack, fields.as_slice())
+        }
+        Declaration::Delegate { id, .. } => {
+            push_id_head(text, "delegate", *id)?;
+            text.push_str(")")?;
+            Ok(())
+        }
+        Declaration::Interface { id, .. } => push_braced(text, *id),
+        Declaration::Class { name, default, .. } => {
+            push_head(text, "rc", name.as_str())?;
+            if flags[i as usize] {
+                text.push_str(")")?;
+                return Ok(());
+            }
+            flags[i as usize] = true;
+            stack.push(Work::Leave(i))?;
+            match default {
+                None => Ok(()),
+                Some(default) => {
+                    stack.push(Work::Part(default))?;
+                    Ok(())
+                }
+            }
+        }
+    }
+}
+
+fn enter_name<'a>(
+    types: &'a Types,
+    flags: &mut [bool],
+    stack: &mut Vec<Work<'a>>,
+    text: &mut String,
+    name: &FullName,
+) -> Result<bool, AllocError>
+    requires order { IsInOrder types.now }
+    requires opened { Opened types.now flags.old (items_of stack.old.items) }
+    ensures { IfOk result (λ fine. let st = items_of stack.old.items in let inside = names_open types.now st in Entered types.now fine (meaning_pieces types.now (deeper types.now inside) inside (kinds.named types.now name.now 0) ++ rest types.now st) flags.new (items_of stack.new.items) (string_bytes text.old) (string_bytes text.new)) }
+{
+    match named(types, name, 0) {
+        None => Ok(false),
+        Some(Meaning::Declared(i, declaration)) => {
+            enter_declared(types, flags, stack, text, i, declaration)?;
+            Ok(true)
+        }
+        Some(Meaning::Found(found)) => push_found(text, &found),
+    }
+}
+
+fn template_id(meaning: &Option<Meaning>) -> Option<u128>
+    ensures { result ≡ template_id (option_map meaning_view meaning.now) }
+{
+    match meaning {
+        Some(Meaning::Found(Found::Interface { id, .. })) => Some(*id),
+        Some(Meaning::Found(Found::Delegate { id, .. })) => Some(*id),
+        _ => None,
+    }
+}
+
+fn enter<'a>(
+    types: &'a Types,
+    flags: &mut [bool],
+    stack: &mut Vec<Work<'a>>,
+    text: &mut String,
+    ty: &'a TypeUse,
+) -> Result<bool, AllocError>
+    requires order { IsInOrder types.now }
+    requires opened { Opened types.now flags.old (items_of stack.old.items) }
+    ensures { IfOk result (λ fine. let st = items_of stack.old.items in let inside = names_open types.now st in Entered types.now fine (level_pieces types.now (deeper types.now inside) inside (tree_of ty.now) ++ rest types.now st) flags.new (items_of stack.new.items) (string_bytes text.old) (string_bytes text.new)) }
+{
+    match ty {
+        TypeUse::Plain(base) => {
+            text.push_str(base_text(*base))?;
+            Ok(true)
+        }
+        TypeUse::Value(name) => enter_name(types, flags, stack, text, name),
+        TypeUse::Reference(name) => enter_name(types, flags, stack, text, name),
+        TypeUse::Inst(name, arguments) => {
+            let arguments = arguments.as_slice();
+            match template_id(&named(types, name, arguments.len())) {
+                None => Ok(false),
+                Some(id) => {
+                    push_id_head(text, "pinterface", id)?;
+                    stack.push(Work::Close)?;
+                    push_uses(stack, arguments)?;
+                    Ok(true)
+                }
+            }
+        }
+    }
+}
+
+// Goes on with one piece of work.
+fn advance<'a>(
+    types: &'a Types,
+    flags: &mut [bool],
+    stack: &mut Vec<Work<'a>>,
+    text: &mut String,
+    work: Work<'a>,
+) -> Result<bool, AllocError>
+    requires order { IsInOrder types.now }
+    requires opened { Opened types.now flags.old (item_of work ∷ items_of stack.old.items) }
+    ensures { IfOk result (λ fine. Advanced types.now fine flags.old (item_of work.entry) (items_of stack.old.items) (string_bytes text.old) flags.new (items_of stack.new.items) (string_bytes text.new)) }
+{
+    match work {
+        Work::Part(part) => {
+            text.push_str(";")?;
+            enter(types, flags, stack, text, part)
+        }
+        Work::Close => {
+            text.push_str(")")?;
+            Ok(true)
+        }
+        Work::Leave(i) => {
+            text.push_str(")")?;
+            flags[i as usize] = false;
+            Ok(true)
+        }
+    }
+}
+
+fn run<'a>(
+    alloc: Global,
+    types: &'a Types,
+    flags: &mut [bool],
+    ty: &'a TypeUse,
+) -> Result<Option<String>, AllocError>
+    requires order { IsInOrder types.now }
+    requires opened { Opened types.now flags.old [] }
+    ensures { IfOk result (λ text. option_map (λ t. string_bytes t) text ≡ signature_text types.now (tree_of ty.now)) }
+{
+    let mut stack = Vec::new(alloc);
+    let mut text = String::new(alloc);
+    if !enter(types, flags, &mut stack, &mut text, ty)? {
+        return Ok(None);
+    }
+    'more: while let Some(work) = stack.pop() {
+        if !advance(types, flags, &mut stack, &mut text, work)? {
+            return Ok(None);
+        }
+    }
+    Ok(Some(text))
+}
+
+/// The signature of a use, where it has one.
+pub fn signature(alloc: Global, types: &Types, ty: &TypeUse) -> Result<Option<String>, AllocError>
+    ensures { IfOk result (λ text. option_map (λ t. string_bytes t) text ≡ signature_text types.now (tree_of ty.now)) }
+{
+    let mut flags = vec![in alloc; false; types.len() as usize]?;
+    run(alloc, types, &mut flags, ty)
+}
