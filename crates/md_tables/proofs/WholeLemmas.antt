@@ -156,7 +156,7 @@ inside rows n lt unknown =
     let here : get_or counts n 0 ≡ count_or rows (get_or by_number n None) = get_or-map (count_or rows) by_number n None 0 lt in
     bit_of counts n lt ∙ ap (λ (k : ℕ). ltb 0 k) (here ∙ no_rows rows (get_or by_number n None) unknown)
 
-unknown_none : (rows : Rows) (n : ℕ) → is_unknown (bits (map (count_or rows) by_number)) n ≡ false
+pub unknown_none : (rows : Rows) (n : ℕ) → is_unknown (bits (map (count_or rows) by_number)) n ≡ false
 unknown_none rows n = known_bit (has_bit (bits (map (count_or rows) by_number)) n) (is_known n) (λ unknown.
     elim (cases_lt n 45) [ inl lt ↦ inside rows n lt unknown | inr le ↦ bit_past (map (count_or rows) by_number) n le ])
 
@@ -166,7 +166,7 @@ bits_in : (sizes : Sizes) → Stands (table_head sizes) 8 (le 8 (bits sizes.rows
 unfolding table_head
 bits_in sizes = record { front = take 8 (table_head sizes); back = drop 16 (table_head sizes); split = refl; at = refl }
 
-valid_is : (sizes : Sizes) (tail : List ℕ) → length sizes.rows ≡ 45 → valid_of (table_head sizes ++ tail) ≡ bits sizes.rows
+pub valid_is : (sizes : Sizes) (tail : List ℕ) → length sizes.rows ≡ 45 → valid_of (table_head sizes ++ tail) ≡ bits sizes.rows
 valid_is sizes tail many =
     let low : bits sizes.rows < 2 ^ 45 = subst (λ (k : ℕ). bits sizes.rows < 2 ^ k) many (bits_low sizes.rows) in
     read_number (table_head sizes ++ tail) 8 8 (bits sizes.rows) (omega (arith, low)) (stands_before (table_head sizes) tail (le 8 (bits sizes.rows)) 8 (bits_in sizes))

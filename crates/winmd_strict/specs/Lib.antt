@@ -1,0 +1,5 @@
+pub mod Placed
+pub mod Shapes
+pub mod Reading
+pub mod Strict
+pub mod Wrong
