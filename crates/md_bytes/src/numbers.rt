@@ -45,26 +45,3 @@ pub fn number(bytes: &[u8]) -> u32
         }
     }
 }
-
-#[cfg(test)]
-mod tests {
-    use super::*;
-    use std::test::Fail;
-
-    #[test]
-    fn low_byte_first(rt: HostRuntime) -> Result<(), Fail> {
-        let mut out = Vec::new(rt.alloc());
-        put_number(&mut out, 1, 0x7F)?;
-        put_number(&mut out, 2, 0x1234)?;
-        put_number(&mut out, 4, 0x89AB_CDEF)?;
-        assert_eq!(rt;
-            out.as_slice(),
-            [0x7F, 0x34, 0x12, 0xEF, 0xCD, 0xAB, 0x89].as_slice()
-        );
-        assert_eq!(rt; number(&[]), 0);
-        assert_eq!(rt; number(&[0x7F]), 127);
-        assert_eq!(rt; number(&[0x34, 0x12]), 0x1234);
-        assert_eq!(rt; number(&[0xEF, 0xCD, 0xAB, 0x89]), 0x89AB_CDEF);
-        Ok(())
-    }
-}

@@ -11,8 +11,6 @@ mod layout;
 mod row;
 mod sizes;
 mod table;
-#[cfg(test)]
-mod tests;
 
 pub use coded::{BadTag, Coded};
 pub use column::{CodedIndex, Column};
