@@ -1,7 +1,9 @@
 pub mod FaultLaws
 pub mod ModifierLaws
+pub mod PathLaws
 pub mod SeveralLaws
 pub mod SignatureLaws
 pub mod TemplateLaws
 pub mod UseLaws
+pub mod ValueLaws
 pub mod WriteLaws

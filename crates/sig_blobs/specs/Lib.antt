@@ -1,5 +1,6 @@
 pub mod Attributes
 pub mod Canonical
+pub mod CanonicalValues
 pub mod Elements
 pub mod Fronts
 pub mod Given

@@ -1,6 +1,8 @@
 //! What is canonical spells, and a blob spells at most one item.
 
-ghost use Rattle.std.specs.Prelude.{◌≡◌, ℕ, List};
+ghost use Rattle.std.specs.Prelude.{◌≡◌, ◌∷◌, ℕ, List};
+ghost use Rattle.sig_blobs.specs.CanonicalValues.{kind_of, ArgumentFits, CanonicalValue, SpellsFirst};
+ghost use Rattle.sig_blobs.specs.declared.argument.Argument.{Argument};
 ghost use Rattle.wr_base.specs.Trees.{UseTree, SignatureTree};
 ghost use Rattle.sig_blobs.specs.Uses.{Meanings};
 ghost use Rattle.sig_blobs.specs.Writing.{Numbers};
@@ -25,3 +27,11 @@ pub fn spells_one()
     ensures spec { (names : Meanings) (blob : List ℕ) (a b : UseTree) → SpellsSpec names blob a → SpellsSpec names blob b → a ≡ b }
     ensures method { (names : Meanings) (blob : List ℕ) (a b : SignatureTree) → SpellsMethod names blob a → SpellsMethod names blob b → a ≡ b }
 {}
+
+/// The canonical value of an attribute whose first argument fits is read as it, and spells at most one argument of a kind.
+pub fn value_spells()
+    ensures first { (blob : List ℕ) (argument : Argument) (args : List Argument) → ArgumentFits argument → CanonicalValue blob (argument ∷ args) → SpellsFirst blob argument }
+    ensures one { (blob : List ℕ) (a b : Argument) → kind_of a ≡ kind_of b → SpellsFirst blob a → SpellsFirst blob b → a ≡ b }
+{
+    compressed_again();
+}

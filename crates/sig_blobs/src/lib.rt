@@ -26,7 +26,7 @@ mod writing;
 
 pub use argument::{Argument, ArgumentKind};
 pub use attributes::first_argument;
-pub use laws::{canonical_spells, spells_one};
+pub use laws::{canonical_spells, spells_one, value_spells};
 pub use put_arguments::put_attribute;
 pub use reading::{field_of, method_of, property_of, spec_of};
 pub use token_names::{RowName, TokenNames};
