@@ -4,18 +4,21 @@
 #
 #   bench/names.sh [N]      N interfaces, which are 20000 where none is given, and 2N
 #
-# At 20000 it is to take less than 1 s, and at 2N less than 2.3 times as long as at N.
+# At 20000 it is to take less than 1 s, and at 2N less than 2.3 times as long as at N. Then as many uses in namespaces of 5, 50 and
+# 250 parts, of a found type and of one that is declared outermost, where 250 parts are to take less than twice what 5 take; and a
+# source of 82 KB with 2,000 uses in a namespace of 2,000 parts, which is to take less than 0.2 s.
 set -eu
 count=${1:-20000}
 . "$(dirname "$0")/programs.sh"
 
-program names_bench 'midl_lex midl_names midl_parse wr_base' <<'PROGRAM'
+program names_bench 'midl_lex midl_names midl_parse midl_tree wr_base' <<'PROGRAM'
 //! Resolves files, and prints the least time of five runs and what came of it.
 #![tactic(auto)]
 
 use midl_lex::tokens;
 use midl_names::resolve;
-use midl_parse::{File, parse};
+use midl_parse::parse;
+use midl_tree::File;
 use std::alloc::Global;
 use std::env;
 use std::fs;
@@ -100,3 +103,29 @@ awk -v n="$count" -v once="$once" -v twice="$twice" 'BEGIN {
     split(once, a, " "); split(twice, b, " ")
     printf "%d interfaces: %.0f ms (%s %s), %d: %.0f ms (%s %s), ratio %.2f\n", n, a[1] / 1000, a[2], a[3], 2 * n, b[1] / 1000, b[2], b[3], b[1] / a[1]
 }'
+
+# deep FOLDER PARTS USES TYPE: a namespace of so many parts, in which interfaces use the type so often
+deep() {
+    mkdir "$work/$1"
+    awk -v parts="$2" -v uses="$3" -v type="$4" 'BEGIN {
+        print "namespace a { interface Outer {}; }"
+        printf "namespace a"
+        for (i = 1; i < parts; i++) printf ".a"
+        print " {"
+        for (i = 0; i < uses; i++) {
+            if (i % 400 == 0) printf "%sinterface I%d {", i == 0 ? "" : "};\n", i / 400
+            printf " void M%d(%s x);", i % 400, type
+        }
+        print "};\n}"
+    }' > "$work/$1/0.idl"
+}
+for type in Windows.Foundation.IClosable Outer; do
+    for parts in 5 50 250; do
+        deep "$type$parts" $parts 40000 $type
+        taken=$("$work/crates/names_bench/out/names_bench" "$work/$type$parts/0.idl")
+        echo "40000 uses of $type in $parts parts: $taken (microseconds first)"
+    done
+    deep "${type}2000" 2000 2000 $type
+    taken=$("$work/crates/names_bench/out/names_bench" "$work/${type}2000/0.idl")
+    echo "2000 uses of $type in 2000 parts, $(wc -c < "$work/${type}2000/0.idl") bytes: $taken"
+done

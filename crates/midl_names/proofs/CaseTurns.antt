@@ -2,7 +2,7 @@
 use Rattle.std.proofs.Common.{◌≡◌, ℕ, ℤ, pos, ◌+ℤ◌, zero, suc, ◌+◌, ◌<◌, ◌≤◌, List, [], ◌∷◌, ◌++◌, length, get_or, drop, refl, sym, ap, ◌∙◌, append_assoc, add-one, arith, drop-cons}
 use Rattle.std.proofs.lemmas.List.{append-nil}
 use Rattle.wr_base.specs.declared.declaration.Case.{Case}
-use Rattle.midl_parse.specs.declared.tree.CaseNode.{CaseNode}
+use Rattle.midl_tree.specs.declared.nodes.CaseNode.{CaseNode}
 use Rattle.midl_names.specs.Members.{value_or, cases_from}
 
 next_of : {X : Type 0} (xs : List X) (i : ℕ) (x : X) → i < length xs → x ≡ get_or xs i x → drop i xs ≡ x ∷ drop (i + 1) xs

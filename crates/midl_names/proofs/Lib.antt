@@ -3,6 +3,7 @@ pub mod CaseTurns
 pub mod Firsts
 pub mod FullNames
 pub mod Lookups
+pub mod Within
 pub mod Nested
 pub mod Resolutions
 pub mod UsesResolved

@@ -5,7 +5,7 @@ use Rattle.std.specs.Map.{update}
 use Rattle.std.specs.Str.{bytes_eq}
 use Rattle.std.proofs.lemmas.List.{take-map}
 use denote.Ref.{Bor}
-use Rattle.midl_parse.specs.declared.symbol.Terminal.{Terminal}
+use Rattle.midl_tree.specs.declared.terminal.Terminal.{Terminal}
 use Rattle.midl_names.specs.declared.sort.Sort.{Sort}
 use Rattle.midl_names.specs.declared.hit.Hit.{Hit}
 use Rattle.midl_names.specs.declared.scoped.Scoped.{Scoped}

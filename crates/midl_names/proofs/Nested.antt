@@ -1,8 +1,8 @@
 -- Trees within trees as lists.
 use Rattle.std.proofs.Common.{◌≡◌, ℕ, List, [], ◌∷◌, ◌++◌, refl, ap, sym, ◌∙◌}
 use Rattle.std.specs.List.{flat_map}
-use Rattle.midl_parse.specs.declared.symbol.Terminal.{Terminal}
-use Rattle.midl_parse.specs.SourceTrees.{ItemTree, space, items_of, TypeTree, named, types_of}
+use Rattle.midl_tree.specs.declared.terminal.Terminal.{Terminal}
+use Rattle.midl_tree.specs.Trees.{ItemTree, space, items_of, TypeTree, named, types_of}
 use Rattle.midl_names.specs.Items.{Item, texts, items_in, items_among}
 use Rattle.midl_names.specs.Uses.{uses_in, uses_among}
 

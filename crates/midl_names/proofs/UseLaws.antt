@@ -2,8 +2,8 @@
 use Rattle.std.proofs.Common.{◌≡◌, ℕ, List, [], ◌∷◌, Option, Some, None, ◌⊎◌, inl, inr, length, refl, sym, ap, ◌∙◌, arith}
 use Rattle.std.proofs.lemmas.Option.{none-some}
 use Rattle.ranked.specs.Entries.{Entry}
-use Rattle.midl_parse.specs.declared.symbol.Terminal.{Terminal}
-use Rattle.midl_parse.specs.SourceTrees.{TypeTree, base, named, types_of}
+use Rattle.midl_tree.specs.declared.terminal.Terminal.{Terminal}
+use Rattle.midl_tree.specs.Trees.{TypeTree, base, named, types_of}
 use Rattle.midl_names.specs.declared.sort.Sort.{Sort}
 use Rattle.midl_names.specs.declared.hit.Hit.{Hit}
 use Rattle.midl_names.specs.Faults.{Gives}
@@ -36,15 +36,15 @@ join_wrong item path count (Some x) e h = h
 
 pub split_use : (known : List ℕ → Option Sort) (item : Item) (u : TypeTree) (e : Entry) → Gives (use_fault known item u) e → Gives (unknown_use known item u) e ⊎ Gives (wrong_use known item u) e
 unfolding Gives
-split_use known item (base word) e h = absurd (none-some e h)
+split_use known item (base b) e h = absurd (none-some e h)
 split_use known item (named path arguments) e h = split_path item path (count_types arguments) (look_up known item.space (dotted path)) e h
 
 pub use_from_unknown : (known : List ℕ → Option Sort) (item : Item) (u : TypeTree) (e : Entry) → Gives (unknown_use known item u) e → Gives (use_fault known item u) e
 unfolding Gives
-use_from_unknown known item (base word) e h = absurd (none-some e h)
+use_from_unknown known item (base b) e h = absurd (none-some e h)
 use_from_unknown known item (named path arguments) e h = join_unknown item path (count_types arguments) (look_up known item.space (dotted path)) e h
 
 pub use_from_wrong : (known : List ℕ → Option Sort) (item : Item) (u : TypeTree) (e : Entry) → Gives (wrong_use known item u) e → Gives (use_fault known item u) e
 unfolding Gives
-use_from_wrong known item (base word) e h = absurd (none-some e h)
+use_from_wrong known item (base b) e h = absurd (none-some e h)
 use_from_wrong known item (named path arguments) e h = join_wrong item path (count_types arguments) (look_up known item.space (dotted path)) e h

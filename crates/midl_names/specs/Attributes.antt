@@ -7,8 +7,8 @@ use Rattle.ranked.specs.Repeats.{Repeated}
 use Rattle.uuid.specs.Text.{parsed}
 use Rattle.wr_base.specs.declared.code.Code.TheVariants.{BadAttribute}
 use Rattle.midl_lex.specs.Numbers.{value_of}
-use Rattle.midl_parse.specs.declared.symbol.Terminal.{Terminal}
-use Rattle.midl_parse.specs.SourceTrees.{AttributeTree, uuid, version, flags, default_interface, DeclTree, enumeration, delegate, interface, class}
+use Rattle.midl_tree.specs.declared.terminal.Terminal.{Terminal}
+use Rattle.midl_tree.specs.Trees.{AttributeTree, uuid, version, flags, default_interface, DeclTree, enumeration, delegate, interface, class}
 use Rattle.midl_names.specs.Items.{Item}
 use Rattle.midl_names.specs.Faults.{entry_at, Gives}
 

@@ -5,7 +5,7 @@ use Rattle.std.specs.Str.{bytes_eq}
 use Rattle.ranked.specs.Entries.{Entry}
 use Rattle.ranked.specs.First.{Among}
 use Rattle.wr_base.specs.declared.code.Code.TheVariants.{ConstructorName, DoubleConstructor}
-use Rattle.midl_parse.specs.SourceTrees.{ParamTree, ClassMemberTree, member, constructor, DeclTree, enumeration, structure, delegate, interface, class}
+use Rattle.midl_tree.specs.Trees.{ParamTree, ClassMemberTree, member, constructor, DeclTree, enumeration, structure, delegate, interface, class}
 use Rattle.midl_names.specs.Items.{Item, own_name}
 use Rattle.midl_names.specs.Faults.{entry_at, Gives}
 

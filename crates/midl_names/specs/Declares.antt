@@ -11,9 +11,8 @@ use Rattle.wr_base.specs.declared.declaration.Member.{Member}
 use Rattle.wr_base.specs.declared.declaration.Declaration.{Declaration}
 use Rattle.wr_base.specs.declared.declaration.Declaration.TheVariants as decls
 use Rattle.midl_lex.specs.Numbers.{value_of}
-use Rattle.midl_parse.specs.declared.symbol.Terminal.{Terminal}
-use Rattle.midl_parse.specs.Trees.{EnumTree}
-use Rattle.midl_parse.specs.SourceTrees.{AttributeTree, uuid, version, flags, default_interface, MemberTree, method, event, properties, property, ClassMemberTree, member, constructor, StructTree, DelegateTree, InterfaceTree, ClassTree, DeclTree, enumeration, structure, delegate, interface, class}
+use Rattle.midl_tree.specs.declared.terminal.Terminal.{Terminal}
+use Rattle.midl_tree.specs.Trees.{EnumTree, AttributeTree, uuid, version, flags, default_interface, MemberTree, method, event, properties, property, ClassMemberTree, member, constructor, StructTree, DelegateTree, InterfaceTree, ClassTree, DeclTree, enumeration, structure, delegate, interface, class}
 use Rattle.midl_names.specs.declared.sort.Sort.{Sort}
 use Rattle.midl_names.specs.declared.placed.WrittenClass.{WrittenClass}
 use Rattle.midl_names.specs.declared.placed.Written.{Written}
@@ -73,13 +72,17 @@ abbrev pub constructor_name : ClassMemberTree → List Terminal
 constructor_name (member fixed m) = []
 constructor_name (constructor name params) = name ∷ []
 
+-- the names of a class's members, statics and constructors
+abbrev pub class_names : List ClassMemberTree → List Terminal
+class_names ms = flat_map names_of (flat_map (members_on false) ms) ++ flat_map names_of (flat_map (members_on true) ms) ++ flat_map constructor_name ms
+
 -- the names of the parts of a declaration: cases, fields or members; of a class members, statics and constructors
 abbrev pub part_names : DeclTree → List Terminal
 part_names (enumeration e) = map (λ c. c.name) e.cases
 part_names (structure s) = flat_map (λ f. f.names) s.fields
 part_names (delegate d) = []
 part_names (interface i) = flat_map names_of i.members
-part_names (class c) = flat_map names_of (flat_map (members_on false) c.members) ++ flat_map names_of (flat_map (members_on true) c.members) ++ flat_map constructor_name c.members
+part_names (class c) = class_names c.members
 
 abbrev pub place_at : ℕ → Terminal → Place
 place_at file name = record { file = file; offset = name.offset }

@@ -1,8 +1,8 @@
 -- The items of a set of sources: each declaration with its namespace and its attributes (MIDL 3.0 reference, Namespaces).
 use Rattle.std.specs.Prelude.{ℕ, List, [], ◌∷◌, ◌++◌, map}
 use Rattle.std.specs.List.{flat_map}
-use Rattle.midl_parse.specs.declared.symbol.Terminal.{Terminal}
-use Rattle.midl_parse.specs.SourceTrees.{AttributeTree, DeclTree, enumeration, structure, delegate, interface, class, ItemTree, space, declared, ItemTrees, no_items, item_and, SourceTree}
+use Rattle.midl_tree.specs.declared.terminal.Terminal.{Terminal}
+use Rattle.midl_tree.specs.Trees.{AttributeTree, DeclTree, enumeration, structure, delegate, interface, class, ItemTree, space, declared, ItemTrees, no_items, item_and, SourceTree}
 
 -- a file's tree and the file's number in its set
 pub record Source : Type 0 where

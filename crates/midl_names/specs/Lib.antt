@@ -7,6 +7,7 @@ pub mod Duplicates
 pub mod Faults
 pub mod Items
 pub mod Lookup
+pub mod Within
 pub mod Members
 pub mod Named
 pub mod Names

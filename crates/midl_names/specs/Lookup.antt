@@ -5,7 +5,7 @@ use Rattle.std.specs.Str.{bytes_eq}
 use Rattle.wr_base.specs.Paths.{is_path}
 use Rattle.found_table.specs.Found.{FoundRow}
 use Rattle.found_table.specs.Table.{builtin}
-use Rattle.midl_parse.specs.SourceTrees.{DeclTree, enumeration, structure, delegate, interface, class}
+use Rattle.midl_tree.specs.Trees.{DeclTree, enumeration, structure, delegate, interface, class}
 use Rattle.midl_names.specs.declared.sort.Sort.{Sort}
 use Rattle.midl_names.specs.declared.sort.Sort.TheVariants.{Value, Reference, Template}
 use Rattle.midl_names.specs.declared.hit.Hit.{Hit}

@@ -7,9 +7,9 @@ use Rattle.wr_base.specs.declared.declaration.Field.{Field}
 use Rattle.wr_base.specs.declared.declaration.Member.{Member}
 use Rattle.wr_base.specs.declared.declaration.Member.TheVariants.{Method, Property, Event}
 use Rattle.midl_lex.specs.Numbers.{value_of}
-use Rattle.midl_parse.specs.declared.tree.Value.{Value}
-use Rattle.midl_parse.specs.declared.tree.CaseNode.{CaseNode}
-use Rattle.midl_parse.specs.SourceTrees.{FieldsTree, MemberTree, method, event, properties, property}
+use Rattle.midl_tree.specs.declared.nodes.Value.{Value}
+use Rattle.midl_tree.specs.declared.nodes.CaseNode.{CaseNode}
+use Rattle.midl_tree.specs.Trees.{FieldsTree, MemberTree, method, event, properties, property}
 use Rattle.midl_names.specs.declared.sort.Sort.{Sort}
 use Rattle.midl_names.specs.Resolved.{resolved, signature_of}
 

@@ -1,37 +1,18 @@
 -- Uses of types, resolved.
-use Rattle.std.specs.Prelude.{ℕ, List, [], ◌∷◌, Option, Some, None, map, codes, if◌then◌else◌}
+use Rattle.std.specs.Prelude.{ℕ, List, [], ◌∷◌, Option, Some, None, map}
 use Rattle.std.specs.Option.{option_map}
-use Rattle.std.specs.Str.{bytes_eq}
-use Rattle.wr_base.specs.declared.type_use.Base.{Base}
 use Rattle.wr_base.specs.declared.type_use.Base.TheVariants as bases
 use Rattle.wr_base.specs.declared.type_use.TypeUse.{TypeUse}
 use Rattle.wr_base.specs.declared.type_use.TypeUse.TheVariants.{Plain, Value, Reference}
 use Rattle.wr_base.specs.declared.type_use.TypeUse.TheViews.{Inst}
 use Rattle.wr_base.specs.declared.declaration.Param.{Param}
 use Rattle.wr_base.specs.declared.declaration.Signature.{Signature}
-use Rattle.midl_parse.specs.SourceTrees.{TypeTree, base, named, TypeTrees, no_types, type_and, ParamTree}
+use Rattle.midl_tree.specs.Trees.{TypeTree, base, named, TypeTrees, no_types, type_and, ParamTree}
 use Rattle.midl_names.specs.declared.sort.Sort.{Sort}
 use Rattle.midl_names.specs.declared.sort.Sort.TheVariants as sorts
 use Rattle.midl_names.specs.declared.hit.Hit.{Hit}
 use Rattle.midl_names.specs.Lookup.{look_up}
 use Rattle.midl_names.specs.Uses.{dotted}
-
--- the fundamental type of a word; `Char16` is a second spelling of `Char`
-unfoldable pub base_of : List ℕ → Base
-base_of word =
-    if bytes_eq word (codes "Boolean") then bases.Boolean
-    else if bytes_eq word (codes "Char") then bases.Char
-    else if bytes_eq word (codes "Char16") then bases.Char
-    else if bytes_eq word (codes "UInt8") then bases.U8
-    else if bytes_eq word (codes "Int16") then bases.I16
-    else if bytes_eq word (codes "UInt16") then bases.U16
-    else if bytes_eq word (codes "Int32") then bases.I32
-    else if bytes_eq word (codes "UInt32") then bases.U32
-    else if bytes_eq word (codes "Int64") then bases.I64
-    else if bytes_eq word (codes "UInt64") then bases.U64
-    else if bytes_eq word (codes "String") then bases.Text
-    else if bytes_eq word (codes "Guid") then bases.Guid
-    else bases.Object
 
 abbrev pub use_by : Sort → List ℕ → List TypeUse → TypeUse
 use_by sorts.Value name arguments = Value name
@@ -46,7 +27,7 @@ use_of (Some h) arguments = use_by h.sort h.name arguments
 module _ (known : List ℕ → Option Sort) (space : List (List ℕ)) where
   abbrev mutual
     pub resolved : TypeTree → TypeUse
-    resolved (base word) = Plain (base_of word.text)
+    resolved (base b) = Plain b
     resolved (named path arguments) = use_of (look_up known space (dotted path)) (resolved_all arguments)
 
     pub resolved_all : TypeTrees → List TypeUse

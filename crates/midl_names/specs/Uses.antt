@@ -5,8 +5,8 @@ use Rattle.std.specs.Option.{option_or}
 use Rattle.ranked.specs.Entries.{Entry}
 use Rattle.ranked.specs.First.{Among}
 use Rattle.wr_base.specs.declared.code.Code.TheVariants.{UnknownType, WrongArity}
-use Rattle.midl_parse.specs.declared.symbol.Terminal.{Terminal}
-use Rattle.midl_parse.specs.SourceTrees.{TypeTree, base, named, TypeTrees, no_types, type_and, ParamTree, MemberTree, method, event, properties, property, ClassMemberTree, member, constructor, DeclTree, enumeration, structure, delegate, interface, class}
+use Rattle.midl_tree.specs.declared.terminal.Terminal.{Terminal}
+use Rattle.midl_tree.specs.Trees.{TypeTree, base, named, TypeTrees, no_types, type_and, ParamTree, MemberTree, method, event, properties, property, ClassMemberTree, member, constructor, DeclTree, enumeration, structure, delegate, interface, class}
 use Rattle.midl_names.specs.declared.sort.Sort.{Sort}
 use Rattle.midl_names.specs.declared.hit.Hit.{Hit}
 use Rattle.midl_names.specs.Items.{Item}
@@ -30,7 +30,7 @@ count_types (type_and t ts) = 1 + count_types ts
 -- the named types of a use, at any depth of arguments
 abbrev mutual
   pub uses_in : TypeTree → List TypeTree
-  uses_in (base word) = []
+  uses_in (base b) = []
   uses_in (named path arguments) = named path arguments ∷ uses_among arguments
 
   pub uses_among : TypeTrees → List TypeTree
@@ -77,16 +77,16 @@ abbrev pub path_fault : Item → List Terminal → ℕ → Option Hit → Option
 path_fault item path count found = option_or (unknown_at item path found) (arity_at item path count found)
 
 abbrev pub unknown_use : (List ℕ → Option Sort) → Item → TypeTree → Option Entry
-unknown_use known item (base word) = None
+unknown_use known item (base b) = None
 unknown_use known item (named path arguments) = unknown_at item path (look_up known item.space (dotted path))
 
 abbrev pub wrong_use : (List ℕ → Option Sort) → Item → TypeTree → Option Entry
-wrong_use known item (base word) = None
+wrong_use known item (base b) = None
 wrong_use known item (named path arguments) = arity_at item path (count_types arguments) (look_up known item.space (dotted path))
 
 -- what is wrong with a use, of which at most one of the two is
 abbrev pub use_fault : (List ℕ → Option Sort) → Item → TypeTree → Option Entry
-use_fault known item (base word) = None
+use_fault known item (base b) = None
 use_fault known item (named path arguments) = path_fault item path (count_types arguments) (look_up known item.space (dotted path))
 
 -- a use that look-up doesn't find stands at its first token

@@ -1,12 +1,12 @@
 -- What the values of the program stand for.
 use Rattle.std.specs.Prelude.{ℕ, List, map}
 use denote.Ref.{Bor}
-use Rattle.midl_parse.specs.declared.symbol.Terminal.{Terminal}
-use Rattle.midl_parse.specs.declared.nodes.File.{File}
-use Rattle.midl_parse.specs.declared.nodes.AttributeNode.{AttributeNode}
-use Rattle.midl_parse.specs.declared.nodes.TypeNode.{TypeNode}
-use Rattle.midl_parse.specs.SourceTrees.{AttributeTree, TypeTree}
-use Rattle.midl_parse.specs.SourceViews.{source_view, attribute_view, type_view, decl_view}
+use Rattle.midl_tree.specs.declared.terminal.Terminal.{Terminal}
+use Rattle.midl_tree.specs.declared.nodes.File.{File}
+use Rattle.midl_tree.specs.declared.nodes.AttributeNode.{AttributeNode}
+use Rattle.midl_tree.specs.declared.nodes.TypeNode.{TypeNode}
+use Rattle.midl_tree.specs.Trees.{AttributeTree, TypeTree}
+use Rattle.midl_tree.specs.Views.{source_view, attribute_view, type_view, decl_view}
 use Rattle.midl_names.specs.declared.scoped.Scoped.{Scoped}
 use Rattle.midl_names.specs.Items.{Source, Item}
 

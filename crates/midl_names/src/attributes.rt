@@ -4,14 +4,14 @@ ghost use Rattle.std.specs.Prelude.{◌≡◌, IfOk, Some, None, if◌then◌els
 ghost use Rattle.std.specs.Option.{is_some};
 ghost use Rattle.ranked.specs.First.{IsFirst, Among};
 ghost use Rattle.ranked.specs.Repeats.{Repeated};
-ghost use Rattle.midl_parse.specs.SourceViews.{attribute_view, decl_view};
+ghost use Rattle.midl_tree.specs.Views.{attribute_view, decl_view};
 ghost use Rattle.midl_names.specs.Attributes.{word_of, called, hyphenated, id_bytes, takes, holds, attribute_entry, unfit};
 ghost use Rattle.midl_names.specs.Faults.{Gives};
 ghost use Rattle.midl_names.specs.Views.{item_of};
 
 use crate::refuse::refuse;
 use crate::scoped::Scoped;
-use midl_parse::{AttributeNode, DeclNode, Terminal};
+use midl_tree::{AttributeNode, DeclNode, Terminal};
 use ranked::earlier;
 use std::alloc::Global;
 use std::collections::BTreeSet;

@@ -6,7 +6,7 @@ ghost use Rattle.midl_names.specs.Members.{signed, value_or, cases_from};
 ghost use Rattle.midl_names.specs.Named.{IsName};
 
 use crate::resolved::name_of;
-use midl_parse::{CaseNode, Value};
+use midl_tree::{CaseNode, Value};
 use std::alloc::Global;
 use wr_base::{Case, Cases, Listed, Memory};
 

@@ -3,7 +3,7 @@
 ghost use Rattle.std.specs.Prelude.{◌≡◌, IfOk, map, drop};
 ghost use Rattle.std.specs.List.{filter};
 ghost use Rattle.ranked.specs.First.{IsFirst, Among};
-ghost use Rattle.midl_parse.specs.SourceViews.{class_member_view};
+ghost use Rattle.midl_tree.specs.Views.{class_member_view};
 ghost use Rattle.midl_names.specs.Constructors.{class_members, is_plain, misnamed, doubled};
 ghost use Rattle.midl_names.specs.Faults.{Gives};
 ghost use Rattle.midl_names.specs.Views.{item_of};
@@ -11,7 +11,7 @@ ghost use Rattle.midl_names.specs.Views.{item_of};
 use crate::paths::own_name;
 use crate::refuse::refuse;
 use crate::scoped::Scoped;
-use midl_parse::{ClassMemberNode, DeclNode};
+use midl_tree::{ClassMemberNode, DeclNode};
 use ranked::earlier;
 use std::alloc::Global;
 use wr_base::{Code, Memory, Refusal};

@@ -3,47 +3,23 @@
 ghost use Rattle.std.specs.Prelude.{◌≡◌, IfOk, Some, None, map, string_bytes, if◌then◌else◌};
 ghost use Rattle.ranked.specs.First.{IsFirst, Among};
 ghost use Rattle.ranked.specs.Repeats.{Repeated};
-ghost use Rattle.midl_names.specs.Duplicates.{lower, lower_name, is_found, duplicate_entry, found_again};
+ghost use Rattle.midl_names.specs.Duplicates.{lower_name, duplicate_entry, found_again};
 ghost use Rattle.midl_names.specs.Faults.{Gives};
 ghost use Rattle.midl_names.specs.Views.{item_of};
 
 use crate::paths::own_name;
 use crate::refuse::refuse;
 use crate::scoped::Scoped;
+use found_table::is_found;
 use ranked::earlier;
 use std::alloc::Global;
 use std::collections::BTreeSet;
-use wr_base::{Code, Memory, Refusal};
-
-fn lowered(alloc: Global, text: &str) -> Result<String, Memory>
-    ensures { IfOk result (λ r. string_bytes r ≡ lower text.now) }
-{
-    let mut lowered = String::from_str(alloc, text)?;
-    lowered.make_ascii_lowercase();
-    Ok(lowered)
-}
+use wr_base::{Code, Memory, Refusal, lowered};
 
 fn lower_name(alloc: Global, item: &Scoped) -> Result<String, Memory>
     ensures { IfOk result (λ r. string_bytes r ≡ lower_name (item_of item.now)) }
 {
     lowered(alloc, item.full.as_str())
-}
-
-#[tactic(auto, unfolding(crate::specs::Duplicates::is_found))]
-fn is_found(lowered: &str) -> bool
-    ensures { result ≡ is_found lowered.now }
-{
-    matches!(
-        lowered,
-        "windows.foundation.eventregistrationtoken"
-            | "windows.foundation.datetime"
-            | "windows.foundation.timespan"
-            | "windows.foundation.iclosable"
-            | "windows.foundation.istringable"
-            | "windows.foundation.ireference"
-            | "windows.foundation.eventhandler"
-            | "windows.foundation.typedeventhandler"
-    )
 }
 
 fn refuse_if(alloc: Global, item: &Scoped, broken: bool) -> Result<Option<Refusal>, Memory>
@@ -66,8 +42,7 @@ fn refuse_if(alloc: Global, item: &Scoped, broken: bool) -> Result<Option<Refusa
 pub(crate) fn found_again(alloc: Global, item: &Scoped) -> Result<Option<Refusal>, Memory>
     ensures { IfOk result (λ r. r ≡ found_again (item_of item.now)) }
 {
-    let name = lower_name(alloc, item)?;
-    let broken = is_found(name.as_str());
+    let broken = is_found(item.full.as_str());
     refuse_if(alloc, item, broken)
 }
 

@@ -4,31 +4,45 @@ ghost use Rattle.std.specs.Prelude.{◌≡◌, ℕ, List, IfOk, map};
 ghost use Rattle.std.specs.BTreeMap.{get_by_text};
 ghost use Rattle.ranked.specs.First.{IsFirst, Among};
 ghost use Rattle.midl_names.specs.Lookup.{declared_sort};
-ghost use Rattle.midl_names.specs.Names.{Broken, ItemFaults};
+ghost use Rattle.midl_names.specs.Names.{Broken, NameFaults, WrittenFaults, ItemFaults};
 ghost use Rattle.midl_names.specs.Views.{item_of};
 
 use crate::attributes::{repeated, unfits};
 use crate::constructors::{doubled_in, misnamed_in};
 use crate::duplicates::{found_again, repeated_names};
-use crate::lookup::Index;
+use crate::index::Index;
 use crate::scoped::Scoped;
 use crate::use_faults::use_faults;
 use ranked::earlier;
 use std::alloc::Global;
 use wr_base::{Memory, Refusal};
 
+fn name_faults(alloc: Global, index: &Index, item: &Scoped) -> Result<Option<Refusal>, Memory>
+    ensures { IfOk result (IsFirst (NameFaults (get_by_text index.now.sorts) (item_of item.now))) }
+{
+    let found = found_again(alloc, item)?;
+    let uses = use_faults(alloc, index, item)?;
+    Ok(earlier(found, uses))
+}
+
+fn written_faults(alloc: Global, index: &Index, item: &Scoped) -> Result<Option<Refusal>, Memory>
+    ensures { IfOk result (IsFirst (WrittenFaults (get_by_text index.now.sorts) (item_of item.now))) }
+{
+    let misnamed = misnamed_in(alloc, item)?;
+    let doubled = doubled_in(alloc, item)?;
+    let names = name_faults(alloc, index, item)?;
+    let last = earlier(doubled, names);
+    Ok(earlier(misnamed, last))
+}
+
 fn item_faults(alloc: Global, index: &Index, item: &Scoped) -> Result<Option<Refusal>, Memory>
     ensures { IfOk result (IsFirst (ItemFaults (get_by_text index.now.sorts) (item_of item.now))) }
 {
     let again = repeated(alloc, item)?;
     let unfit = unfits(alloc, item)?;
-    let misnamed = misnamed_in(alloc, item)?;
-    let doubled = doubled_in(alloc, item)?;
-    let found = found_again(alloc, item)?;
-    let uses = use_faults(alloc, index, item)?;
-    let last = earlier(found, uses);
-    let made = earlier(misnamed, earlier(doubled, last));
-    Ok(earlier(again, earlier(unfit, made)))
+    let written = written_faults(alloc, index, item)?;
+    let last = earlier(unfit, written);
+    Ok(earlier(again, last))
 }
 
 fn all_item_faults(

@@ -2,13 +2,13 @@
 
 ghost use Rattle.std.specs.Prelude.{◌≡◌, ◌++◌, [], IfOk, OnOk, map};
 ghost use Rattle.std.specs.List.{flat_map};
-ghost use Rattle.midl_parse.specs.SourceViews.{decl_view, item_view, attribute_view};
+ghost use Rattle.midl_tree.specs.Views.{decl_view, item_view, attribute_view};
 ghost use Rattle.midl_names.specs.Items.{texts, item_at, items_in, items_of};
 ghost use Rattle.midl_names.specs.Views.{sources_of, item_of, parts_of, attributes_of};
 
 use crate::paths::{full_name, own_name};
 use crate::scoped::Scoped;
-use midl_parse::{AttributeNode, DeclNode, File, Ident, ItemNode};
+use midl_tree::{AttributeNode, DeclNode, File, Ident, ItemNode};
 use std::alloc::Global;
 use wr_base::Memory;
 

@@ -10,6 +10,7 @@ mod constructors;
 mod duplicates;
 mod faults;
 mod hit;
+mod index;
 mod items;
 mod lookup;
 mod marks;

@@ -2,12 +2,12 @@
 
 ghost use Rattle.std.specs.Prelude.{◌≡◌};
 ghost use Rattle.std.specs.List.{list_any};
-ghost use Rattle.midl_parse.specs.SourceViews.{attribute_view};
+ghost use Rattle.midl_tree.specs.Views.{attribute_view};
 ghost use Rattle.midl_names.specs.Declares.{version_by, version_of, id_of, is_flags, is_mark};
 ghost use Rattle.midl_names.specs.Views.{attributes_of};
 
 use crate::attributes::id_of as uuid_of;
-use midl_parse::AttributeNode;
+use midl_tree::AttributeNode;
 
 fn version_by(value: u64) -> u32
     ensures { result ≡ version_by value }

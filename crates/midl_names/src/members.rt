@@ -3,7 +3,7 @@
 ghost use Rattle.std.specs.Prelude.{◌≡◌, ◌++◌, ◌∷◌, [], true, IfOk, OnOk, map, option_map};
 ghost use Rattle.std.specs.BTreeMap.{get_by_text};
 ghost use Rattle.std.specs.List.{flat_map};
-ghost use Rattle.midl_parse.specs.SourceViews.{type_view, fields_view, param_view, member_view};
+ghost use Rattle.midl_tree.specs.Views.{type_view, fields_view, param_view, member_view};
 ghost use Rattle.midl_names.specs.Members.{fields_of, members_of};
 ghost use Rattle.wr_base.specs.declared.declaration.Member.TheVariants.{Method, Property, Event};
 ghost use Rattle.midl_names.specs.Resolved.{resolved, signature_of};
@@ -11,7 +11,7 @@ ghost use Rattle.midl_names.specs.Views.{parts_of};
 
 use crate::resolved::{name_of, resolved, signature_of};
 use crate::scope::Scope;
-use midl_parse::{FieldsNode, Ident, MemberNode, ParamNode, TypeNode};
+use midl_tree::{FieldsNode, Ident, MemberNode, ParamNode, TypeNode};
 use wr_base::{Field, Fields, Listed, Member, Memory, Name};
 
 fn push_field(

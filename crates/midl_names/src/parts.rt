@@ -2,13 +2,13 @@
 
 ghost use Rattle.std.specs.Prelude.{◌≡◌, ◌++◌, true, false, IfOk, OnOk, map};
 ghost use Rattle.std.specs.List.{flat_map};
-ghost use Rattle.midl_parse.specs.SourceViews.{decl_view, fields_view, member_view, class_member_view};
-ghost use Rattle.midl_names.specs.Declares.{members_on, names_of, constructor_name, part_names, place_at, places_of};
+ghost use Rattle.midl_tree.specs.Views.{decl_view, fields_view, member_view, class_member_view};
+ghost use Rattle.midl_names.specs.Declares.{members_on, names_of, constructor_name, class_names, part_names, place_at, places_of};
 ghost use Rattle.midl_names.specs.Views.{item_of, idents_of};
 
 use crate::paths::own_name;
 use crate::scoped::Scoped;
-use midl_parse::{CaseNode, ClassMemberNode, DeclNode, FieldsNode, Ident, MemberNode};
+use midl_tree::{CaseNode, ClassMemberNode, DeclNode, FieldsNode, Ident, MemberNode};
 use std::alloc::Global;
 use wr_base::{DeclPlaces, Listed, Memory, Place, PlaceList};
 
@@ -118,21 +118,31 @@ fn push_constructors<'a>(
     Ok(())
 }
 
+fn push_class<'a>(into: &mut Vec<&'a Ident>, members: &'a [ClassMemberNode]) -> Result<(), Memory>
+    ensures { OnOk result (idents_of into.new.items ≡ idents_of into.old.items ++ class_names (map class_member_view members.now)) }
+{
+    push_side(into, false, members)?;
+    push_side(into, true, members)?;
+    push_constructors(into, members)
+}
+
+fn push_parts<'a>(into: &mut Vec<&'a Ident>, tree: &'a DeclNode) -> Result<(), Memory>
+    ensures { OnOk result (idents_of into.new.items ≡ idents_of into.old.items ++ part_names (decl_view tree.now)) }
+{
+    match tree {
+        DeclNode::Enum(node) => push_cases(into, &node.cases),
+        DeclNode::Struct(node) => push_fields(into, &node.fields),
+        DeclNode::Delegate(_) => Ok(()),
+        DeclNode::Interface(node) => push_members(into, &node.members),
+        DeclNode::Class(node) => push_class(into, &node.members),
+    }
+}
+
 fn part_names<'a>(alloc: Global, tree: &'a DeclNode) -> Result<Vec<&'a Ident>, Memory>
     ensures { IfOk result (λ names. idents_of names.items ≡ part_names (decl_view tree.now)) }
 {
     let mut names = Vec::new(alloc);
-    match tree {
-        DeclNode::Enum(node) => push_cases(&mut names, &node.cases)?,
-        DeclNode::Struct(node) => push_fields(&mut names, &node.fields)?,
-        DeclNode::Delegate(_) => {}
-        DeclNode::Interface(node) => push_members(&mut names, &node.members)?,
-        DeclNode::Class(node) => {
-            push_side(&mut names, false, &node.members)?;
-            push_side(&mut names, true, &node.members)?;
-            push_constructors(&mut names, &node.members)?;
-        }
-    }
+    push_parts(&mut names, tree)?;
     Ok(names)
 }
 

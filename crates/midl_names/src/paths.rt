@@ -3,12 +3,12 @@
 ghost use Rattle.std.specs.Prelude.{◌≡◌, ◌++◌, ◌∷◌, [], ◌<◌, IfOk, OnOk, IsTrue, string_bytes, length};
 ghost use Rattle.std.specs.List.{All, flat_map};
 ghost use Rattle.wr_base.specs.Paths.{is_identifier};
-ghost use Rattle.midl_parse.specs.SourceViews.{decl_view};
+ghost use Rattle.midl_tree.specs.Views.{decl_view};
 ghost use Rattle.midl_names.specs.Items.{own_name, prefix};
 ghost use Rattle.midl_names.specs.Uses.{dotted, first_offset};
 ghost use Rattle.midl_names.specs.Views.{parts_of};
 
-use midl_parse::{DeclNode, Ident};
+use midl_tree::{DeclNode, Ident};
 use std::alloc::Global;
 use wr_base::{FullName, Memory};
 
@@ -25,7 +25,8 @@ pub(crate) fn own_name(tree: &DeclNode) -> &Ident
     }
 }
 
-fn push_part(text: &mut String, part: &Ident) -> Result<(), Memory>
+/// Puts a part of a namespace and a dot behind the text.
+pub(crate) fn push_part(text: &mut String, part: &Ident) -> Result<(), Memory>
     ensures value { OnOk result (string_bytes text.new ≡ string_bytes text.old ++ (part.now.text ++ 46 ∷ [])) }
     ensures identifier { IsTrue (is_identifier part.now.text) }
 {

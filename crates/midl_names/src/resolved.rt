@@ -2,43 +2,23 @@
 
 ghost use Rattle.std.specs.Prelude.{◌≡◌, IfOk, map, option_map, string_bytes};
 ghost use Rattle.std.specs.BTreeMap.{get_by_text};
-ghost use Rattle.midl_parse.specs.SourceViews.{type_view, param_view};
+ghost use Rattle.midl_tree.specs.Views.{type_view, param_view};
 ghost use Rattle.midl_names.specs.Lookup.{look_up};
 ghost use Rattle.midl_names.specs.Named.{IsName};
-ghost use Rattle.midl_names.specs.Resolved.{base_of, use_of, resolved, param_of, signature_of};
+ghost use Rattle.midl_names.specs.Resolved.{use_of, resolved, param_of, signature_of};
 ghost use Rattle.midl_names.specs.Uses.{dotted};
 ghost use Rattle.midl_names.specs.Views.{parts_of};
 
 use crate::hit::Hit;
-use crate::lookup::{Index, look_up};
+use crate::index::Index;
+use crate::lookup::look_up;
 use crate::paths::dotted;
 use crate::scope::Scope;
 use crate::sort::Sort;
-use midl_parse::{Ident, ParamNode, TypeNode};
+use midl_tree::{Ident, ParamNode, TypeNode};
 use sqlite_items::Items;
 use std::alloc::Global;
 use wr_base::{Base, Listed, Memory, Name, Param, Params, Signature, TypeUse, Uses};
-
-#[tactic(auto, unfolding(crate::specs::Resolved::base_of))]
-fn base_of(word: &str) -> Base
-    ensures { result ≡ base_of word.now }
-{
-    match word {
-        "Boolean" => Base::Boolean,
-        "Char" => Base::Char,
-        "Char16" => Base::Char,
-        "UInt8" => Base::U8,
-        "Int16" => Base::I16,
-        "UInt16" => Base::U16,
-        "Int32" => Base::I32,
-        "UInt32" => Base::U32,
-        "Int64" => Base::I64,
-        "UInt64" => Base::U64,
-        "String" => Base::Text,
-        "Guid" => Base::Guid,
-        _ => Base::Object,
-    }
-}
 
 fn use_of(found: Option<Hit>, arguments: Uses) -> TypeUse
     ensures { result ≡ use_of found arguments }
@@ -68,7 +48,7 @@ pub(crate) fn resolved(scope: &Scope, node: &TypeNode) -> Result<TypeUse, Memory
     ensures { IfOk result (λ u. u ≡ resolved (get_by_text scope.now.index.now.sorts) (parts_of scope.now.item.now.space.items) (type_view node.now)) }
 {
     match node {
-        TypeNode::Base(word) => Ok(TypeUse::Plain(base_of(word.as_str()))),
+        TypeNode::Base(base) => Ok(TypeUse::Plain(*base)),
         TypeNode::Named(path, arguments) => {
             let mut uses = Items::new(scope.alloc);
             for argument in arguments {

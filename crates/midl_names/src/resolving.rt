@@ -10,11 +10,11 @@ ghost use Rattle.midl_names.specs.Names.{Names};
 ghost use Rattle.midl_names.specs.Views.{sources_of};
 
 use crate::faults::faults;
+use crate::index::index_of;
 use crate::items::items_of;
-use crate::lookup::index_of;
 use crate::placed::Placed;
 use crate::written::placed;
-use midl_parse::File;
+use midl_tree::File;
 use std::alloc::Global;
 use wr_base::{Refusal, Stop};
 

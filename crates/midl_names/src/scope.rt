@@ -1,4 +1,4 @@
-use crate::lookup::Index;
+use crate::index::Index;
 use crate::scoped::Scoped;
 use std::alloc::Global;
 

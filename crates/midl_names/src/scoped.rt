@@ -1,8 +1,8 @@
 ghost use Rattle.std.specs.Prelude.{◌≡◌, ◌++◌, map};
-ghost use Rattle.midl_parse.specs.SourceViews.{decl_view};
+ghost use Rattle.midl_tree.specs.Views.{decl_view};
 ghost use Rattle.midl_names.specs.Items.{own_name, prefix};
 
-use midl_parse::{AttributeNode, DeclNode, Ident};
+use midl_tree::{AttributeNode, DeclNode, Ident};
 use wr_base::FullName;
 
 /// A declaration with the parts of its namespace and its attributes.

@@ -3,18 +3,19 @@
 ghost use Rattle.std.specs.Prelude.{◌≡◌, IfOk};
 ghost use Rattle.std.specs.BTreeMap.{get_by_text};
 ghost use Rattle.ranked.specs.First.{IsFirst, Among};
-ghost use Rattle.midl_parse.specs.SourceViews.{type_view};
+ghost use Rattle.midl_tree.specs.Views.{type_view};
 ghost use Rattle.midl_names.specs.Faults.{Gives};
 ghost use Rattle.midl_names.specs.Lookup.{look_up};
 ghost use Rattle.midl_names.specs.Uses.{dotted, uses_of, path_fault, use_fault};
 ghost use Rattle.midl_names.specs.Views.{item_of};
 
-use crate::lookup::{Index, arity, look_up};
+use crate::index::Index;
+use crate::lookup::{arity, look_up};
 use crate::paths::{dotted, first_offset};
 use crate::refuse::refuse;
 use crate::scoped::Scoped;
 use crate::uses::uses_of;
-use midl_parse::{Ident, TypeNode};
+use midl_tree::{Ident, TypeNode};
 use ranked::earlier;
 use std::alloc::Global;
 use wr_base::{Code, Memory, Refusal};

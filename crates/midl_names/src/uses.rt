@@ -2,11 +2,15 @@
 
 ghost use Rattle.std.specs.Prelude.{◌≡◌, ◌++◌, IfOk, OnOk, map, option_map};
 ghost use Rattle.std.specs.List.{flat_map};
-ghost use Rattle.midl_parse.specs.SourceViews.{type_view, param_view, fields_view, member_view, class_member_view, decl_view};
+ghost use Rattle.midl_tree.specs.Views.{type_view, param_view, fields_view, member_view, class_member_view, delegate_view, interface_view, class_view, decl_view};
+ghost use Rattle.midl_tree.specs.Trees.{delegate, interface, class};
 ghost use Rattle.midl_names.specs.Uses.{uses_in, result_uses, param_uses, member_uses, class_member_uses, uses_of};
 ghost use Rattle.midl_names.specs.Views.{types_of};
 
-use midl_parse::{ClassMemberNode, DeclNode, FieldsNode, MemberNode, ParamNode, TypeNode};
+use midl_tree::{
+    ClassMemberNode, ClassNode, DeclNode, DelegateNode, FieldsNode, InterfaceNode, MemberNode,
+    ParamNode, TypeNode,
+};
 use std::alloc::Global;
 use wr_base::Memory;
 
@@ -112,26 +116,44 @@ fn push_class_members<'a>(
     Ok(())
 }
 
+fn push_delegate<'a>(into: &mut Vec<&'a TypeNode>, node: &'a DelegateNode) -> Result<(), Memory>
+    ensures { OnOk result (types_of into.new.items ≡ types_of into.old.items ++ uses_of (delegate (delegate_view node.now))) }
+{
+    push_result(into, &node.outcome)?;
+    push_params(into, &node.params)
+}
+
+fn push_interface<'a>(into: &mut Vec<&'a TypeNode>, node: &'a InterfaceNode) -> Result<(), Memory>
+    ensures { OnOk result (types_of into.new.items ≡ types_of into.old.items ++ uses_of (interface (interface_view node.now))) }
+{
+    push_types(into, &node.required)?;
+    push_members(into, &node.members)
+}
+
+fn push_class<'a>(into: &mut Vec<&'a TypeNode>, node: &'a ClassNode) -> Result<(), Memory>
+    ensures { OnOk result (types_of into.new.items ≡ types_of into.old.items ++ uses_of (class (class_view node.now))) }
+{
+    push_types(into, &node.bases)?;
+    push_class_members(into, &node.members)
+}
+
+fn push_all<'a>(into: &mut Vec<&'a TypeNode>, tree: &'a DeclNode) -> Result<(), Memory>
+    ensures { OnOk result (types_of into.new.items ≡ types_of into.old.items ++ uses_of (decl_view tree.now)) }
+{
+    match tree {
+        DeclNode::Enum(_) => Ok(()),
+        DeclNode::Struct(node) => push_fields(into, &node.fields),
+        DeclNode::Delegate(node) => push_delegate(into, node),
+        DeclNode::Interface(node) => push_interface(into, node),
+        DeclNode::Class(node) => push_class(into, node),
+    }
+}
+
 /// The named types in all uses of a declaration, each before its arguments.
 pub(crate) fn uses_of<'a>(alloc: Global, tree: &'a DeclNode) -> Result<Vec<&'a TypeNode>, Memory>
     ensures { IfOk result (λ uses. types_of uses.items ≡ uses_of (decl_view tree.now)) }
 {
     let mut uses = Vec::new(alloc);
-    match tree {
-        DeclNode::Enum(_) => {}
-        DeclNode::Struct(node) => push_fields(&mut uses, &node.fields)?,
-        DeclNode::Delegate(node) => {
-            push_result(&mut uses, &node.outcome)?;
-            push_params(&mut uses, &node.params)?;
-        }
-        DeclNode::Interface(node) => {
-            push_types(&mut uses, &node.required)?;
-            push_members(&mut uses, &node.members)?;
-        }
-        DeclNode::Class(node) => {
-            push_types(&mut uses, &node.bases)?;
-            push_class_members(&mut uses, &node.members)?;
-        }
-    }
+    push_all(&mut uses, tree)?;
     Ok(uses)
 }

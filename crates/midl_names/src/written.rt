@@ -1,10 +1,9 @@
 //! Declarations with their uses resolved.
 
-ghost use Rattle.std.specs.Prelude.{◌≡◌, ◌++◌, IfOk, OnOk, map, unwrap_or};
+ghost use Rattle.std.specs.Prelude.{◌≡◌, ◌++◌, true, false, IfOk, OnOk, map, unwrap_or};
 ghost use Rattle.std.specs.BTreeMap.{get_by_text};
 ghost use Rattle.std.specs.List.{flat_map};
-ghost use Rattle.midl_parse.specs.SourceViews.{member_view, class_member_view, struct_view, delegate_view, interface_view, class_view, decl_view};
-ghost use Rattle.midl_parse.specs.Views.{enum_view};
+ghost use Rattle.midl_tree.specs.Views.{member_view, class_member_view, struct_view, delegate_view, interface_view, class_view, decl_view, enum_view};
 ghost use Rattle.midl_names.specs.Declares.{members_on, members_in, constructors_of, enum_of, struct_of, delegate_of, interface_of, class_of, written_by, placed_of};
 ghost use Rattle.midl_names.specs.Members.{members_of};
 ghost use Rattle.midl_names.specs.Named.{AreNamed, CasesAreNamed, WrittenIsNamed};
@@ -12,7 +11,7 @@ ghost use Rattle.midl_names.specs.Views.{item_of, parts_of};
 
 use crate::abi::name_methods;
 use crate::cases::cases_of;
-use crate::lookup::Index;
+use crate::index::Index;
 use crate::marks::{has_flags, has_mark, id_of, version_of};
 use crate::members::{fields_of, push_members};
 use crate::parts::places_of;
@@ -20,7 +19,7 @@ use crate::placed::{Placed, PlacedItem, Signatures, Written, WrittenClass};
 use crate::resolved::{resolved_list, signature_of};
 use crate::scope::Scope;
 use crate::scoped::Scoped;
-use midl_parse::{
+use midl_tree::{
     ClassMemberNode, ClassNode, DeclNode, DelegateNode, EnumNode, InterfaceNode, MemberNode,
     StructNode,
 };
@@ -108,14 +107,22 @@ fn constructors_of(scope: &Scope, nodes: &[ClassMemberNode]) -> Result<Signature
     Ok(Listed::from_vec(signatures))
 }
 
+fn both_sides(scope: &Scope, nodes: &[ClassMemberNode]) -> Result<(Members, Members), Memory>
+    ensures own { IfOk result (λ p. p.0 ≡ members_in (get_by_text scope.now.index.now.sorts) (parts_of scope.now.item.now.space.items) (flat_map (members_on false) (map class_member_view nodes.now))) }
+    ensures statics { IfOk result (λ p. p.1 ≡ members_in (get_by_text scope.now.index.now.sorts) (parts_of scope.now.item.now.space.items) (flat_map (members_on true) (map class_member_view nodes.now))) }
+{
+    let members = side_members(scope, false, nodes)?;
+    let statics = side_members(scope, true, nodes)?;
+    Ok((members, statics))
+}
+
 fn class_of(scope: &Scope, node: &ClassNode) -> Result<WrittenClass, Memory>
     ensures { IfOk result (λ w. w ≡ class_of (get_by_text scope.now.index.now.sorts) (item_of scope.now.item.now) (class_view node.now)) }
 {
     let name = scope.item.full.clone()?;
     let listed = resolved_list(scope, &node.bases)?;
     let constructors = constructors_of(scope, &node.members)?;
-    let members = side_members(scope, false, &node.members)?;
-    let statics = side_members(scope, true, &node.members)?;
+    let (members, statics) = both_sides(scope, &node.members)?;
     Ok(WrittenClass {
         name,
         version: version_of(&scope.item.attributes),
@@ -210,8 +217,8 @@ fn placed_of(alloc: Global, index: &Index, item: &Scoped) -> Result<PlacedItem, 
     ensures named { IfOk result (λ p. WrittenIsNamed p.item) }
 {
     let scope = Scope { alloc, index, item };
-    let written = written_of(&scope)?;
     let places = places_of(alloc, item)?;
+    let written = written_of(&scope)?;
     Ok(PlacedItem {
         item: written,
         id: id_of(&item.attributes),

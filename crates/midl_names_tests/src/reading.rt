@@ -3,7 +3,8 @@
 use crate::show::placed;
 use midl_lex::tokens;
 use midl_names::resolve;
-use midl_parse::{File, parse};
+use midl_parse::parse;
+use midl_tree::File;
 use std::alloc::{AllocError, Global};
 use wr_base::{Refusal, Stop};
 

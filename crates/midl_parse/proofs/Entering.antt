@@ -8,19 +8,19 @@ use Rattle.ranked.proofs.FirstLaws.{itself}
 use Rattle.grammar.specs.Faults.{FaultAt}
 use Rattle.grammar.proofs.Places.{one_place, taken_no_fault}
 use Rattle.midl_lex.specs.Pieces.{Piece}
-use Rattle.midl_parse.specs.declared.nodes.File.{File}
-use Rattle.midl_parse.specs.declared.symbol.Terminal.{Terminal}
-use Rattle.midl_parse.specs.declared.stop.Code.{Code}
-use Rattle.midl_parse.specs.declared.stop.Code.TheVariants.{Syntax, FloatType, UnknownAttribute, TooDeep}
-use Rattle.midl_parse.specs.Words.{terminal_of}
-use Rattle.midl_parse.specs.SourceTrees.{SourceTree}
-use Rattle.midl_parse.specs.SourceGrammar.{IsSource}
-use Rattle.midl_parse.specs.SourceReading.{source_at}
-use Rattle.midl_parse.specs.SourceViews.{source_view}
-use Rattle.midl_parse.specs.SourceFaults.{IsFault}
+use Rattle.midl_tree.specs.declared.nodes.File.{File}
+use Rattle.midl_tree.specs.declared.terminal.Terminal.{Terminal}
+use Rattle.midl_words.specs.declared.stop.Code.{Code}
+use Rattle.midl_words.specs.declared.stop.Code.TheVariants.{Syntax, FloatType, UnknownAttribute, TooDeep}
+use Rattle.midl_words.specs.Words.{terminal_of}
+use Rattle.midl_tree.specs.Trees.{SourceTree}
+use Rattle.midl_parse.specs.Files.{IsSource}
+use Rattle.midl_parse.specs.ReadFiles.{source_at}
+use Rattle.midl_tree.specs.Views.{source_view}
+use Rattle.midl_parse.specs.Faults.{IsFault}
 use Rattle.midl_parse.specs.Entries.{entry, Parsing, Parses, RefusedFirst, Refuses}
-use Rattle.midl_parse.proofs.SourceFiles.{takes, faulty}
-use Rattle.midl_parse.proofs.SourceWholes.{one_source}
+use Rattle.midl_parse.proofs.FileLaws.{takes, faulty}
+use Rattle.midl_parse.proofs.OneTree.{one_source}
 
 -- two faults of one list at one place have one code
 same_code : (ts : List Terminal) (n : ℕ) (c d : Code) → IsFault ts c n → IsFault ts d n → c ≡ d

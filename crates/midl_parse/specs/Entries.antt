@@ -1,20 +1,20 @@
 -- The fault of parsing a file as an entry in the order of refusals, and what parsing answers.
-use Rattle.std.specs.Prelude.{◌≡◌, ℕ, ◌+◌, ◌-◌, List, length, map, slice_get, codes, Option, Some, None, Result, Ok, Err}
+use Rattle.std.specs.Prelude.{ℕ, ◌+◌, length, Option, Some, None, ◌-◌, List, slice_get, codes, ◌≡◌, map, Result, Ok, Err}
 use Rattle.ranked.specs.Entries.{Entry}
 use Rattle.ranked.specs.First.{IsFirst}
 use Rattle.ranked.specs.declared.stop.Stop.{Stop}
 use Rattle.ranked.specs.declared.stop.Stop.TheVariants.{Refused, Memory}
-use Rattle.wr_base.specs.Codes.{rank_of}
 use Rattle.wr_base.specs.declared.code.Code.{Code as AnyCode}
-use Rattle.wr_base.specs.declared.code.Code.TheVariants as all
+use Rattle.wr_base.specs.Codes.{rank_of}
 use Rattle.midl_lex.specs.Pieces.{Piece}
-use Rattle.midl_parse.specs.declared.nodes.File.{File}
-use Rattle.midl_parse.specs.declared.stop.Code.{Code}
-use Rattle.midl_parse.specs.declared.stop.Code.TheVariants.{Syntax, FloatType, UnknownAttribute, TooDeep}
-use Rattle.midl_parse.specs.Words.{terminal_of}
-use Rattle.midl_parse.specs.SourceTrees.{SourceTree}
-use Rattle.midl_parse.specs.SourceViews.{source_view}
-use Rattle.midl_parse.specs.SourceFaults.{IsFault}
+use Rattle.midl_tree.specs.declared.nodes.File.{File}
+use Rattle.midl_tree.specs.Trees.{SourceTree}
+use Rattle.midl_tree.specs.Views.{source_view}
+use Rattle.midl_words.specs.declared.stop.Code.{Code}
+use Rattle.midl_words.specs.declared.stop.Code.TheVariants.{Syntax, FloatType, UnknownAttribute, TooDeep}
+use Rattle.midl_words.specs.Words.{terminal_of}
+use Rattle.midl_parse.specs.Faults.{IsFault}
+use Rattle.wr_base.specs.declared.code.Code.TheVariants as all
 
 -- the code among all that a source may be refused with
 abbrev pub code_of : Code → AnyCode

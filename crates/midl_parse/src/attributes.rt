@@ -2,19 +2,17 @@
 
 ghost use Rattle.std.specs.Prelude.{◌≡◌, ◌∷◌, [], map, option_map, Some, None, false, true};
 ghost use Rattle.grammar.specs.Readers.{starts, one_at, many_at, after_front, either_at, optional_at, bar_at};
-ghost use Rattle.midl_parse.specs.declared.kind.Kind.TheVariants.{Namespace, Comma, Dot, Out, Void, Event, Static, Text, Base, Float, OpenBracket, Import, Guid};
-ghost use Rattle.midl_parse.specs.Kinds.{number_of, names, no_attributes};
-ghost use Rattle.midl_parse.specs.Symbols.{kind_of};
-ghost use Rattle.midl_parse.specs.declared.stop.Code.TheVariants.{Syntax};
-ghost use Rattle.midl_parse.specs.Reading.{Gives, behind_at};
-ghost use Rattle.midl_parse.specs.SourceReading.{uuid_at, version_at, flags_at, default_at, known_at, attribute_at, listed_at, group_at};
-ghost use Rattle.midl_parse.specs.SourceViews.{attribute_view};
+ghost use Rattle.midl_tree.specs.declared.kind.Kind.TheVariants.{Namespace, Comma, Dot, Out, Void, Event, Static, Text, Base, Float, OpenBracket, Import, Guid};
+ghost use Rattle.midl_tree.specs.Kinds.{number_of, names, no_attributes};
+ghost use Rattle.midl_tree.specs.Symbols.{kind_of};
+ghost use Rattle.midl_words.specs.declared.stop.Code.TheVariants.{Syntax};
+ghost use Rattle.midl_words.specs.Reading.{Gives, behind_at};
+ghost use Rattle.midl_parse.specs.ReadAttributes.{uuid_at, version_at, flags_at, default_at, known_at, attribute_at, group_at};
+ghost use Rattle.midl_parse.specs.ReadLists.{listed_at};
+ghost use Rattle.midl_tree.specs.Views.{attribute_view};
 
-use crate::kind::Kind;
-use crate::nodes::AttributeNode;
-use crate::reading::{begins, take, take_number};
-use crate::stop::{Code, Stop};
-use crate::symbol::Terminal;
+use midl_tree::{AttributeNode, Kind, Terminal};
+use midl_words::{Code, Stop, begins, take, take_number};
 use std::alloc::Global;
 
 fn begins_no_attribute(tokens: &[Terminal]) -> bool
@@ -41,7 +39,7 @@ fn take_id(tokens: &[Terminal]) -> Result<(&Terminal, &[Terminal]), Stop>
     }
 }
 
-#[tactic(auto, unfolding(crate::specs::SourceReading::uuid_at))]
+#[tactic(auto, unfolding(crate::specs::ReadAttributes::uuid_at))]
 fn uuid_of(tokens: &[Terminal]) -> Result<(AttributeNode, &[Terminal]), Stop>
     ensures { Gives (λ x. (attribute_view x.0, x.1.now)) result (uuid_at tokens.now) }
 {
@@ -52,7 +50,7 @@ fn uuid_of(tokens: &[Terminal]) -> Result<(AttributeNode, &[Terminal]), Stop>
     Ok((AttributeNode::Uuid(word.clone()?, id.clone()?), rest))
 }
 
-#[tactic(auto, unfolding(crate::specs::SourceReading::version_at))]
+#[tactic(auto, unfolding(crate::specs::ReadAttributes::version_at))]
 fn version_of(tokens: &[Terminal]) -> Result<(AttributeNode, &[Terminal]), Stop>
     ensures { Gives (λ x. (attribute_view x.0, x.1.now)) result (version_at tokens.now) }
 {
@@ -63,7 +61,7 @@ fn version_of(tokens: &[Terminal]) -> Result<(AttributeNode, &[Terminal]), Stop>
     Ok((AttributeNode::Version(word.clone()?, number), rest))
 }
 
-#[tactic(auto, unfolding(crate::specs::SourceReading::flags_at))]
+#[tactic(auto, unfolding(crate::specs::ReadAttributes::flags_at))]
 fn flags_of(tokens: &[Terminal]) -> Result<(AttributeNode, &[Terminal]), Stop>
     ensures { Gives (λ x. (attribute_view x.0, x.1.now)) result (flags_at tokens.now) }
 {
@@ -71,7 +69,7 @@ fn flags_of(tokens: &[Terminal]) -> Result<(AttributeNode, &[Terminal]), Stop>
     Ok((AttributeNode::Flags(word.clone()?), rest))
 }
 
-#[tactic(auto, unfolding(crate::specs::SourceReading::default_at))]
+#[tactic(auto, unfolding(crate::specs::ReadAttributes::default_at))]
 fn default_of(tokens: &[Terminal]) -> Result<(AttributeNode, &[Terminal]), Stop>
     ensures { Gives (λ x. (attribute_view x.0, x.1.now)) result (default_at tokens.now) }
 {
@@ -79,7 +77,7 @@ fn default_of(tokens: &[Terminal]) -> Result<(AttributeNode, &[Terminal]), Stop>
     Ok((AttributeNode::DefaultInterface(word.clone()?), rest))
 }
 
-#[tactic(auto, unfolding(crate::specs::SourceReading::attribute_at, crate::specs::SourceReading::known_at))]
+#[tactic(auto, unfolding(crate::specs::ReadAttributes::attribute_at, crate::specs::ReadAttributes::known_at))]
 fn attribute_of(tokens: &[Terminal]) -> Result<(AttributeNode, &[Terminal]), Stop>
     ensures { Gives (λ x. (attribute_view x.0, x.1.now)) result (attribute_at tokens.now) }
 {
@@ -98,7 +96,7 @@ fn attribute_of(tokens: &[Terminal]) -> Result<(AttributeNode, &[Terminal]), Sto
     default_of(tokens)
 }
 
-#[tactic(auto, unfolding(crate::specs::Reading::behind_at))]
+#[tactic(auto, unfolding(midl_words::specs::Reading::behind_at))]
 fn comma_attribute(tokens: &[Terminal]) -> Result<(AttributeNode, &[Terminal]), Stop>
     ensures { Gives (λ x. (attribute_view x.0, x.1.now)) result (behind_at Comma attribute_at tokens.now) }
 {
@@ -121,7 +119,7 @@ fn more_attributes(
     Ok((attributes, rest))
 }
 
-#[tactic(auto, unfolding(crate::specs::SourceReading::group_at, crate::specs::SourceReading::listed_at))]
+#[tactic(auto, unfolding(crate::specs::ReadAttributes::group_at, crate::specs::ReadLists::listed_at))]
 fn group_of(alloc: Global, tokens: &[Terminal]) -> Result<(Vec<AttributeNode>, &[Terminal]), Stop>
     ensures { Gives (λ x. (map attribute_view x.0.items, x.1.now)) result (group_at attribute_at tokens.now) }
 {

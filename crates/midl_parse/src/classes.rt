@@ -2,22 +2,20 @@
 
 ghost use Rattle.std.specs.Prelude.{◌≡◌, ◌∷◌, [], map, option_map, Some, None, false, true};
 ghost use Rattle.grammar.specs.Readers.{starts, many_at, after_front, either_at, optional_at, bar_at};
-ghost use Rattle.midl_parse.specs.declared.kind.Kind.TheVariants.{Namespace, Comma, Dot, Out, Void, Event, Static, Text, Base, Float, OpenBracket, Import, Guid};
-ghost use Rattle.midl_parse.specs.Kinds.{number_of, names, no_attributes};
-ghost use Rattle.midl_parse.specs.Symbols.{kind_of};
-ghost use Rattle.midl_parse.specs.Reading.{Gives};
-ghost use Rattle.midl_parse.specs.SourceReading.{base_at, args_at, own_at, static_at, based_at, constructor_at, rest_at, from_name_at, class_member_at, bases_at, class_body_at, class_at, dots_at, typed_at};
-ghost use Rattle.midl_parse.specs.SourceViews.{class_member_view, class_view};
+ghost use Rattle.midl_tree.specs.declared.kind.Kind.TheVariants.{Colon, Namespace, Comma, Dot, Out, Void, Event, Static, Text, Base, Float, OpenBracket, Import, Guid};
+ghost use Rattle.midl_tree.specs.Kinds.{number_of, names, no_attributes};
+ghost use Rattle.midl_tree.specs.Symbols.{kind_of};
+ghost use Rattle.midl_words.specs.Reading.{Gives, more_dots_at};
+ghost use Rattle.midl_parse.specs.ReadTypes.{base_at, args_at};
+ghost use Rattle.midl_parse.specs.ReadClasses.{own_at, static_at, based_at, constructor_at, rest_at, from_name_at, class_member_at, bases_at, class_body_at, class_at};
+ghost use Rattle.midl_parse.specs.ReadMembers.{typed_at};
+ghost use Rattle.midl_tree.specs.Views.{types_view, class_member_view, class_view};
 
-use crate::ident::Ident;
-use crate::kind::Kind;
 use crate::members::{event_of, member_of, typed_of, void_member_of};
-use crate::nodes::{ClassMemberNode, ClassNode, TypeNode};
-use crate::reading::{begins, more_dots, take, take_if, take_own_name};
 use crate::signatures::params_of;
-use crate::stop::Stop;
-use crate::symbol::Terminal;
-use crate::types::{arguments_of, base_of, begins_base, types_of};
+use crate::types::{arguments_of, base_of, begins_base, or_none, types_of};
+use midl_tree::{ClassMemberNode, ClassNode, Ident, Kind, Terminal, TypeNode};
+use midl_words::{Stop, begins, more_dots, take, take_if, take_own_name};
 use std::alloc::Global;
 
 fn begins_class_member(tokens: &[Terminal]) -> bool
@@ -29,7 +27,7 @@ fn begins_class_member(tokens: &[Terminal]) -> bool
     }
 }
 
-#[tactic(auto, unfolding(crate::specs::SourceReading::static_at, crate::specs::SourceReading::own_at))]
+#[tactic(auto, unfolding(crate::specs::ReadClasses::static_at, crate::specs::ReadClasses::own_at))]
 fn static_of(
     alloc: Global,
     depth: u32,
@@ -42,7 +40,7 @@ fn static_of(
     Ok((ClassMemberNode::Member(true, part), rest))
 }
 
-#[tactic(auto, unfolding(crate::specs::SourceReading::based_at, crate::specs::SourceReading::own_at))]
+#[tactic(auto, unfolding(crate::specs::ReadClasses::based_at, crate::specs::ReadClasses::own_at))]
 fn based_of(
     alloc: Global,
     depth: u32,
@@ -55,7 +53,7 @@ fn based_of(
     Ok((ClassMemberNode::Member(false, part), rest))
 }
 
-#[tactic(auto, unfolding(crate::specs::SourceReading::constructor_at))]
+#[tactic(auto, unfolding(crate::specs::ReadClasses::constructor_at))]
 fn constructor_of(
     alloc: Global,
     depth: u32,
@@ -68,7 +66,7 @@ fn constructor_of(
     Ok((ClassMemberNode::Constructor(name, params), rest))
 }
 
-#[tactic(auto, unfolding(crate::specs::SourceReading::rest_at, crate::specs::SourceReading::own_at))]
+#[tactic(auto, unfolding(crate::specs::ReadClasses::rest_at, crate::specs::ReadClasses::own_at))]
 fn rest_of(
     alloc: Global,
     depth: u32,
@@ -85,7 +83,7 @@ fn rest_of(
     Ok((ClassMemberNode::Member(false, part), rest))
 }
 
-#[tactic(auto, unfolding(crate::specs::SourceReading::from_name_at))]
+#[tactic(auto, unfolding(crate::specs::ReadClasses::from_name_at))]
 fn from_name(
     alloc: Global,
     depth: u32,
@@ -100,7 +98,7 @@ fn from_name(
     rest_of(alloc, depth, name, rest)
 }
 
-#[tactic(auto, unfolding(crate::specs::SourceReading::class_member_at, crate::specs::SourceReading::own_at))]
+#[tactic(auto, unfolding(crate::specs::ReadClasses::class_member_at, crate::specs::ReadClasses::own_at))]
 fn class_member_of(
     alloc: Global,
     depth: u32,
@@ -142,7 +140,7 @@ fn class_members_of(
     Ok((members, rest))
 }
 
-#[tactic(auto, unfolding(crate::specs::SourceReading::class_body_at))]
+#[tactic(auto, unfolding(crate::specs::ReadClasses::class_body_at))]
 fn class_body_of(
     alloc: Global,
     depth: u32,
@@ -157,7 +155,23 @@ fn class_body_of(
     Ok((members, rest))
 }
 
-#[tactic(auto, unfolding(crate::specs::SourceReading::class_at, crate::specs::SourceReading::bases_at, crate::specs::Reading::behind_at, crate::specs::SourceReading::class_body_at))]
+#[tactic(auto, unfolding(crate::specs::ReadClasses::bases_at, midl_words::specs::Reading::behind_at))]
+fn bases_of(
+    alloc: Global,
+    depth: u32,
+    tokens: &[Terminal],
+) -> Result<(Option<Vec<TypeNode>>, &[Terminal]), Stop>
+    ensures { Gives (λ x. (option_map (λ v. types_view v.items) x.0, x.1.now)) result (optional_at kind_of (number_of Colon ∷ []) (bases_at base_at (args_at depth)) tokens.now) }
+{
+    if !begins(tokens, Kind::Colon) {
+        return Ok((None, tokens));
+    }
+    let (_, rest) = take(tokens, Kind::Colon)?;
+    let (bases, rest) = types_of(alloc, depth, rest)?;
+    Ok((Some(bases), rest))
+}
+
+#[tactic(auto, unfolding(crate::specs::ReadClasses::class_at))]
 pub(crate) fn class_of(
     alloc: Global,
     depth: u32,
@@ -168,22 +182,9 @@ pub(crate) fn class_of(
     let (fixed, rest) = take_if(tokens, Kind::Static);
     let (_, rest) = take(rest, Kind::Runtimeclass)?;
     let (name, rest) = take_own_name(rest)?;
-    if begins(rest, Kind::Colon) {
-        let (_, rest) = take(rest, Kind::Colon)?;
-        let (bases, rest) = types_of(alloc, depth, rest)?;
-        let (members, rest) = class_body_of(alloc, depth, rest)?;
-        return Ok((
-            ClassNode {
-                fixed,
-                name,
-                bases,
-                members,
-            },
-            rest,
-        ));
-    }
+    let (bases, rest) = bases_of(alloc, depth, rest)?;
     let (members, rest) = class_body_of(alloc, depth, rest)?;
-    let bases = Vec::new(alloc);
+    let bases = or_none(alloc, bases);
     Ok((
         ClassNode {
             fixed,

@@ -1,18 +1,19 @@
 //! Enums.
 
-ghost use Rattle.std.specs.Prelude.{◌≡◌};
-ghost use Rattle.grammar.specs.Readers.{after_front};
-ghost use Rattle.midl_parse.specs.Reading.{Gives, value_at, case_at, more_cases_at, cases_at, enum_at};
-ghost use Rattle.midl_parse.specs.Views.{enum_view};
+ghost use Rattle.std.specs.Prelude.{◌≡◌, option_map};
+ghost use Rattle.grammar.specs.Readers.{after_front, optional_at};
+ghost use Rattle.midl_tree.specs.Kinds.{names};
+ghost use Rattle.midl_tree.specs.Symbols.{kind_of};
+ghost use Rattle.midl_parse.specs.Lists.{or_none};
+ghost use Rattle.midl_words.specs.Reading.{Gives};
+ghost use Rattle.midl_parse.specs.ReadEnums.{value_at, case_at, more_cases_at, cases_at, enum_at};
+ghost use Rattle.midl_tree.specs.Views.{enum_view};
 
-use crate::kind::Kind;
-use crate::reading::{begins, begins_name, take, take_if, take_name, take_number, take_own_name};
-use crate::stop::Stop;
-use crate::symbol::Terminal;
-use crate::tree::{CaseNode, EnumNode, Value};
+use midl_tree::{CaseNode, EnumNode, Kind, Terminal, Value};
+use midl_words::{Stop, begins, begins_name, take, take_if, take_name, take_number, take_own_name};
 use std::alloc::Global;
 
-#[tactic(auto, unfolding(crate::specs::Reading::value_at))]
+#[tactic(auto, unfolding(crate::specs::ReadEnums::value_at))]
 fn value_of(tokens: &[Terminal]) -> Result<(Value, &[Terminal]), Stop>
     ensures { Gives (λ x. (x.0, x.1.now)) result (value_at tokens.now) }
 {
@@ -22,7 +23,7 @@ fn value_of(tokens: &[Terminal]) -> Result<(Value, &[Terminal]), Stop>
     Ok((Value { negated, number }, rest))
 }
 
-#[tactic(auto, unfolding(crate::specs::Reading::case_at))]
+#[tactic(auto, unfolding(crate::specs::ReadEnums::case_at))]
 fn case_of(tokens: &[Terminal]) -> Result<(CaseNode, &[Terminal]), Stop>
     ensures { Gives (λ x. (x.0, x.1.now)) result (case_at tokens.now) }
 {
@@ -59,7 +60,7 @@ fn more_cases(
     Ok((cases, rest))
 }
 
-#[tactic(auto, unfolding(crate::specs::Reading::cases_at))]
+#[tactic(auto, unfolding(crate::specs::ReadEnums::cases_at))]
 fn cases_of(alloc: Global, tokens: &[Terminal]) -> Result<(Vec<CaseNode>, &[Terminal]), Stop>
     ensures { Gives (λ x. (x.0.items, x.1.now)) result (cases_at tokens.now) }
 {
@@ -69,21 +70,38 @@ fn cases_of(alloc: Global, tokens: &[Terminal]) -> Result<(Vec<CaseNode>, &[Term
     more_cases(cases, rest)
 }
 
-#[tactic(auto, unfolding(crate::specs::Reading::enum_at))]
+fn some_cases_of(
+    alloc: Global,
+    tokens: &[Terminal],
+) -> Result<(Option<Vec<CaseNode>>, &[Terminal]), Stop>
+    ensures { Gives (λ x. (option_map (λ v. v.items) x.0, x.1.now)) result (optional_at kind_of names cases_at tokens.now) }
+{
+    if !begins_name(tokens) {
+        return Ok((None, tokens));
+    }
+    let (cases, rest) = cases_of(alloc, tokens)?;
+    Ok((Some(cases), rest))
+}
+
+fn or_none(alloc: Global, cases: Option<Vec<CaseNode>>) -> Vec<CaseNode>
+    ensures { result.items ≡ or_none (option_map (λ v. v.items) cases) }
+{
+    match cases {
+        None => Vec::new(alloc),
+        Some(cases) => cases,
+    }
+}
+
+#[tactic(auto, unfolding(crate::specs::ReadEnums::enum_at))]
 pub(crate) fn enum_of(alloc: Global, tokens: &[Terminal]) -> Result<(EnumNode, &[Terminal]), Stop>
     ensures { Gives (λ x. (enum_view x.0, x.1.now)) result (enum_at tokens.now) }
 {
     let (_, rest) = take(tokens, Kind::Enum)?;
     let (name, rest) = take_own_name(rest)?;
     let (_, rest) = take(rest, Kind::OpenBrace)?;
-    if begins_name(rest) {
-        let (cases, rest) = cases_of(alloc, rest)?;
-        let (_, rest) = take(rest, Kind::CloseBrace)?;
-        let (_, rest) = take_if(rest, Kind::Semicolon);
-        return Ok((EnumNode { name, cases }, rest));
-    }
+    let (cases, rest) = some_cases_of(alloc, rest)?;
     let (_, rest) = take(rest, Kind::CloseBrace)?;
     let (_, rest) = take_if(rest, Kind::Semicolon);
-    let cases = Vec::new(alloc);
+    let cases = or_none(alloc, cases);
     Ok((EnumNode { name, cases }, rest))
 }

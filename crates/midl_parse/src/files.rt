@@ -3,18 +3,17 @@
 ghost use Rattle.std.specs.Prelude.{◌≡◌, List, Some, IfOk, IfErr, map};
 ghost use Rattle.ranked.specs.Entries.{Entry};
 ghost use Rattle.ranked.specs.First.{IsFirst};
-ghost use Rattle.midl_parse.specs.Words.{terminal_of};
-ghost use Rattle.midl_parse.specs.SourceTrees.{SourceTree};
-ghost use Rattle.midl_parse.specs.SourceGrammar.{IsSource};
-ghost use Rattle.midl_parse.specs.SourceViews.{source_view};
+ghost use Rattle.midl_words.specs.Words.{terminal_of};
+ghost use Rattle.midl_tree.specs.Trees.{SourceTree};
+ghost use Rattle.midl_parse.specs.Files.{IsSource};
+ghost use Rattle.midl_tree.specs.Views.{source_view};
 ghost use Rattle.midl_parse.specs.Entries.{Parsing, Parses, RefusedFirst, Refuses};
 
-use crate::nodes::File;
 use crate::parsing::source_of;
 use crate::refusal::refusal;
-use crate::stop;
-use crate::words::terminals_of;
 use midl_lex::Token;
+use midl_tree::File;
+use midl_words::terminals_of;
 use std::alloc::Global;
 use wr_base::{Refusal, Stop};
 
@@ -34,8 +33,8 @@ pub fn parse(alloc: Global, file: u32, tokens: &[Token]) -> Result<File, Stop<Re
     let terminals = terminals_of(alloc, tokens)?;
     match source_of(alloc, file, &terminals) {
         Ok(parsed) => Ok(parsed),
-        Err(stop::Stop::Memory) => Err(Stop::Memory),
-        Err(stop::Stop::Fault(code, left)) => {
+        Err(midl_words::Stop::Memory) => Err(Stop::Memory),
+        Err(midl_words::Stop::Fault(code, left)) => {
             Err(Stop::Refused(refusal(alloc, file, tokens, code, left)?))
         }
     }

@@ -1,26 +1,25 @@
-//! Declarations, namespaces and whole files.
+//! Declarations and namespaces.
 
 ghost use Rattle.std.specs.Prelude.{◌≡◌, ◌∷◌, [], map, option_map, Some, None, false, true};
 ghost use Rattle.grammar.specs.Readers.{starts, many_at, after_front, either_at, optional_at, bar_at};
-ghost use Rattle.midl_parse.specs.declared.kind.Kind.TheVariants.{Namespace, Comma, Dot, Out, Void, Event, Static, Text, Base, Float, OpenBracket, Import, Guid};
-ghost use Rattle.midl_parse.specs.Kinds.{number_of, names, no_attributes};
-ghost use Rattle.midl_parse.specs.Symbols.{kind_of};
-ghost use Rattle.midl_parse.specs.Reading.{Gives};
-ghost use Rattle.midl_parse.specs.SourceReading.{attribute_at, base_at, args_at, decl_at, enumeration_at, structure_at, delegated_at, interfaced_at, classed_at, declared_first, declared_at, space_with, items_at, import_at};
-ghost use Rattle.midl_parse.specs.SourceViews.{decl_view, item_view};
+ghost use Rattle.midl_tree.specs.declared.kind.Kind.TheVariants.{Namespace, Comma, Dot, Out, Void, Event, Static, Text, Base, Float, OpenBracket, Import, Guid};
+ghost use Rattle.midl_tree.specs.Kinds.{number_of, names, no_attributes, declared_first};
+ghost use Rattle.midl_tree.specs.Symbols.{kind_of};
+ghost use Rattle.midl_words.specs.Reading.{Gives};
+ghost use Rattle.midl_parse.specs.ReadAttributes.{attribute_at};
+ghost use Rattle.midl_parse.specs.ReadTypes.{base_at, args_at};
+ghost use Rattle.midl_parse.specs.ReadItems.{decl_at, enumeration_at, structure_at, delegated_at, interfaced_at, classed_at, declared_at, space_with, items_at};
+ghost use Rattle.midl_parse.specs.ReadImports.{import_at};
+ghost use Rattle.midl_tree.specs.Views.{decl_view, item_view};
 
 use crate::attributes::groups_of;
 use crate::classes::class_of;
 use crate::enums::enum_of;
-use crate::kind::Kind;
-use crate::lists::import_of;
 use crate::members::interface_of;
-use crate::nodes::{DeclNode, ItemNode};
-use crate::reading::{begins, dotted_of, take, take_if};
 use crate::signatures::delegate_of;
-use crate::stop::{Code, Stop};
 use crate::structs::struct_of;
-use crate::symbol::Terminal;
+use midl_tree::{DeclNode, ItemNode, Kind, Terminal};
+use midl_words::{Code, Stop, begins, dotted_of, take, take_if};
 use std::alloc::Global;
 
 fn begins_declared(tokens: &[Terminal]) -> bool
@@ -41,7 +40,7 @@ fn begins_item(tokens: &[Terminal]) -> bool
     }
 }
 
-#[tactic(auto, unfolding(crate::specs::SourceReading::decl_at, crate::specs::SourceReading::enumeration_at, crate::specs::SourceReading::structure_at, crate::specs::SourceReading::delegated_at, crate::specs::SourceReading::interfaced_at, crate::specs::SourceReading::classed_at))]
+#[tactic(auto, unfolding(crate::specs::ReadItems::decl_at, crate::specs::ReadItems::enumeration_at, crate::specs::ReadItems::structure_at, crate::specs::ReadItems::delegated_at, crate::specs::ReadItems::interfaced_at, crate::specs::ReadItems::classed_at))]
 fn decl_of(alloc: Global, types: u32, tokens: &[Terminal]) -> Result<(DeclNode, &[Terminal]), Stop>
     ensures { Gives (λ x. (decl_view x.0, x.1.now)) result (decl_at base_at (args_at types) tokens.now) }
 {
@@ -65,7 +64,7 @@ fn decl_of(alloc: Global, types: u32, tokens: &[Terminal]) -> Result<(DeclNode, 
     Ok((DeclNode::Class(tree), rest))
 }
 
-#[tactic(auto, unfolding(crate::specs::SourceReading::declared_at))]
+#[tactic(auto, unfolding(crate::specs::ReadItems::declared_at))]
 fn declared_of(
     alloc: Global,
     types: u32,
@@ -96,7 +95,7 @@ fn all_declared(
 }
 
 #[cycle(items)]
-#[tactic(auto, unfolding(crate::specs::SourceReading::items_at))]
+#[tactic(auto, unfolding(crate::specs::ReadItems::items_at))]
 fn items_of(
     alloc: Global,
     depth: u32,
@@ -150,7 +149,7 @@ fn item_of(
 }
 
 #[cycle(items)]
-#[tactic(auto, unfolding(crate::specs::SourceReading::space_with))]
+#[tactic(auto, unfolding(crate::specs::ReadItems::space_with))]
 fn namespace_of(
     alloc: Global,
     depth: u32,
@@ -166,22 +165,6 @@ fn namespace_of(
     let (_, rest) = take(rest, Kind::CloseBrace)?;
     let (_, rest) = take_if(rest, Kind::Semicolon);
     Ok((ItemNode::Namespace(name, items), rest))
-}
-
-pub(crate) fn imports_of(
-    alloc: Global,
-    tokens: &[Terminal],
-) -> Result<(Vec<Vec<Terminal>>, &[Terminal]), Stop>
-    ensures { Gives (λ x. (map (λ v. v.items) x.0.items, x.1.now)) result (many_at kind_of (number_of Import ∷ []) import_at tokens.entry.now) }
-{
-    let mut imports = Vec::new(alloc);
-    let mut rest = tokens;
-    'more: while begins(rest, Kind::Import) {
-        let (item, after) = import_of(alloc, rest)?;
-        imports.push(item)?;
-        rest = after;
-    }
-    Ok((imports, rest))
 }
 
 pub(crate) fn spaces_of(

@@ -2,22 +2,19 @@
 
 ghost use Rattle.std.specs.Prelude.{◌≡◌, ◌∷◌, [], map, option_map, Some, None, false, true};
 ghost use Rattle.grammar.specs.Readers.{starts, many_at, after_front, either_at, optional_at, bar_at};
-ghost use Rattle.midl_parse.specs.declared.kind.Kind.TheVariants.{Namespace, Get, Comma, Dot, Out, Void, Event, Static, Text, Base, Float, OpenBracket, Import, Guid};
-ghost use Rattle.midl_parse.specs.Kinds.{number_of, names, no_attributes};
-ghost use Rattle.midl_parse.specs.Symbols.{kind_of};
-ghost use Rattle.midl_parse.specs.Reading.{Gives};
-ghost use Rattle.midl_parse.specs.SourceReading.{base_at, args_at, set_end_at, get_first_at, set_first_at, accessors_at, method_at, property_at, properties_at, typed_at, void_member_at, event_at, typed_member_at, member_at, required_at, body_at, interface_at};
-ghost use Rattle.midl_parse.specs.SourceViews.{type_view, types_view, member_view, interface_view};
+ghost use Rattle.midl_tree.specs.declared.kind.Kind.TheVariants.{Requires, Namespace, Get, Comma, Dot, Out, Void, Event, Static, Text, Base, Float, OpenBracket, Import, Guid};
+ghost use Rattle.midl_tree.specs.Kinds.{number_of, names, no_attributes};
+ghost use Rattle.midl_tree.specs.Symbols.{kind_of};
+ghost use Rattle.midl_words.specs.Reading.{Gives};
+ghost use Rattle.midl_parse.specs.ReadTypes.{base_at, args_at};
+ghost use Rattle.midl_parse.specs.ReadMembers.{set_end_at, get_first_at, set_first_at, accessors_at, method_at, property_at, properties_at, typed_at, void_member_at, event_at, typed_member_at, member_at, required_at, body_at, interface_at};
+ghost use Rattle.midl_tree.specs.Views.{type_view, types_view, member_view, interface_view};
 
-use crate::ident::Ident;
-use crate::kind::Kind;
 use crate::lists::more_names;
-use crate::nodes::{InterfaceNode, MemberNode, TypeNode};
-use crate::reading::{begins, take, take_if, take_name, take_own_name};
 use crate::signatures::params_of;
-use crate::stop::Stop;
-use crate::symbol::Terminal;
-use crate::types::{type_of, types_of};
+use crate::types::{or_none, type_of, types_of};
+use midl_tree::{Ident, InterfaceNode, Kind, MemberNode, Terminal, TypeNode};
+use midl_words::{Stop, begins, take, take_if, take_name, take_own_name};
 use std::alloc::Global;
 
 fn begins_member(tokens: &[Terminal]) -> bool
@@ -29,7 +26,7 @@ fn begins_member(tokens: &[Terminal]) -> bool
     }
 }
 
-#[tactic(auto, unfolding(crate::specs::SourceReading::get_first_at, crate::specs::SourceReading::set_end_at))]
+#[tactic(auto, unfolding(crate::specs::ReadMembers::get_first_at, crate::specs::ReadMembers::set_end_at))]
 fn get_first(_depth: u32, tokens: &[Terminal]) -> Result<(bool, &[Terminal]), Stop>
     ensures { Gives (λ x. (x.0, x.1.now)) result (get_first_at base_at (args_at _depth) tokens.now) }
 {
@@ -43,7 +40,7 @@ fn get_first(_depth: u32, tokens: &[Terminal]) -> Result<(bool, &[Terminal]), St
     Ok((false, rest))
 }
 
-#[tactic(auto, unfolding(crate::specs::SourceReading::set_first_at))]
+#[tactic(auto, unfolding(crate::specs::ReadMembers::set_first_at))]
 fn set_first(_depth: u32, tokens: &[Terminal]) -> Result<(bool, &[Terminal]), Stop>
     ensures { Gives (λ x. (x.0, x.1.now)) result (set_first_at base_at (args_at _depth) tokens.now) }
 {
@@ -63,7 +60,7 @@ fn get_or_set(depth: u32, tokens: &[Terminal]) -> Result<(bool, &[Terminal]), St
     set_first(depth, tokens)
 }
 
-#[tactic(auto, unfolding(crate::specs::SourceReading::accessors_at))]
+#[tactic(auto, unfolding(crate::specs::ReadMembers::accessors_at))]
 fn accessors_of(depth: u32, tokens: &[Terminal]) -> Result<(bool, &[Terminal]), Stop>
     ensures { Gives (λ x. (x.0, x.1.now)) result (accessors_at base_at (args_at depth) tokens.now) }
 {
@@ -74,7 +71,7 @@ fn accessors_of(depth: u32, tokens: &[Terminal]) -> Result<(bool, &[Terminal]), 
     Ok((put, rest))
 }
 
-#[tactic(auto, unfolding(crate::specs::SourceReading::method_at))]
+#[tactic(auto, unfolding(crate::specs::ReadMembers::method_at))]
 fn method_of(
     alloc: Global,
     depth: u32,
@@ -88,7 +85,7 @@ fn method_of(
     Ok((MemberNode::Method(outcome, name, params), rest))
 }
 
-#[tactic(auto, unfolding(crate::specs::SourceReading::property_at))]
+#[tactic(auto, unfolding(crate::specs::ReadMembers::property_at))]
 fn property_of(
     depth: u32,
     kind: TypeNode,
@@ -101,7 +98,7 @@ fn property_of(
     Ok((MemberNode::Property(kind, name, put), rest))
 }
 
-#[tactic(auto, unfolding(crate::specs::SourceReading::properties_at))]
+#[tactic(auto, unfolding(crate::specs::ReadMembers::properties_at))]
 fn properties_of(
     alloc: Global,
     _depth: u32,
@@ -118,7 +115,7 @@ fn properties_of(
     Ok((MemberNode::Properties(kind, names), rest))
 }
 
-#[tactic(auto, unfolding(crate::specs::SourceReading::typed_at))]
+#[tactic(auto, unfolding(crate::specs::ReadMembers::typed_at))]
 pub(crate) fn typed_of(
     alloc: Global,
     depth: u32,
@@ -137,7 +134,7 @@ pub(crate) fn typed_of(
     properties_of(alloc, depth, kind, name, rest)
 }
 
-#[tactic(auto, unfolding(crate::specs::SourceReading::void_member_at))]
+#[tactic(auto, unfolding(crate::specs::ReadMembers::void_member_at))]
 pub(crate) fn void_member_of(
     alloc: Global,
     depth: u32,
@@ -150,7 +147,7 @@ pub(crate) fn void_member_of(
     method_of(alloc, depth, None, name, rest)
 }
 
-#[tactic(auto, unfolding(crate::specs::SourceReading::event_at))]
+#[tactic(auto, unfolding(crate::specs::ReadMembers::event_at))]
 pub(crate) fn event_of(
     alloc: Global,
     depth: u32,
@@ -165,7 +162,7 @@ pub(crate) fn event_of(
     Ok((MemberNode::Event(kind, name), rest))
 }
 
-#[tactic(auto, unfolding(crate::specs::SourceReading::member_at, crate::specs::SourceReading::typed_member_at))]
+#[tactic(auto, unfolding(crate::specs::ReadMembers::member_at, crate::specs::ReadMembers::typed_member_at))]
 pub(crate) fn member_of(
     alloc: Global,
     depth: u32,
@@ -200,7 +197,7 @@ fn members_of(
     Ok((members, rest))
 }
 
-#[tactic(auto, unfolding(crate::specs::SourceReading::body_at))]
+#[tactic(auto, unfolding(crate::specs::ReadMembers::body_at))]
 fn body_of(
     alloc: Global,
     depth: u32,
@@ -215,7 +212,23 @@ fn body_of(
     Ok((members, rest))
 }
 
-#[tactic(auto, unfolding(crate::specs::SourceReading::interface_at, crate::specs::SourceReading::required_at, crate::specs::Reading::behind_at, crate::specs::SourceReading::body_at))]
+#[tactic(auto, unfolding(crate::specs::ReadMembers::required_at, midl_words::specs::Reading::behind_at))]
+fn required_of(
+    alloc: Global,
+    depth: u32,
+    tokens: &[Terminal],
+) -> Result<(Option<Vec<TypeNode>>, &[Terminal]), Stop>
+    ensures { Gives (λ x. (option_map (λ v. types_view v.items) x.0, x.1.now)) result (optional_at kind_of (number_of Requires ∷ []) (required_at base_at (args_at depth)) tokens.now) }
+{
+    if !begins(tokens, Kind::Requires) {
+        return Ok((None, tokens));
+    }
+    let (_, rest) = take(tokens, Kind::Requires)?;
+    let (required, rest) = types_of(alloc, depth, rest)?;
+    Ok((Some(required), rest))
+}
+
+#[tactic(auto, unfolding(crate::specs::ReadMembers::interface_at))]
 pub(crate) fn interface_of(
     alloc: Global,
     depth: u32,
@@ -225,21 +238,9 @@ pub(crate) fn interface_of(
 {
     let (_, rest) = take(tokens, Kind::Interface)?;
     let (name, rest) = take_own_name(rest)?;
-    if begins(rest, Kind::Requires) {
-        let (_, rest) = take(rest, Kind::Requires)?;
-        let (required, rest) = types_of(alloc, depth, rest)?;
-        let (members, rest) = body_of(alloc, depth, rest)?;
-        return Ok((
-            InterfaceNode {
-                name,
-                required,
-                members,
-            },
-            rest,
-        ));
-    }
+    let (required, rest) = required_of(alloc, depth, rest)?;
     let (members, rest) = body_of(alloc, depth, rest)?;
-    let required = Vec::new(alloc);
+    let required = or_none(alloc, required);
     Ok((
         InterfaceNode {
             name,

@@ -1,23 +1,23 @@
 //! Whole files.
 
 ghost use Rattle.std.specs.Prelude.{◌≡◌, List, Ok, IfOk, IfErr};
-ghost use Rattle.midl_parse.specs.Reading.{Gives};
-ghost use Rattle.midl_parse.specs.SourceTrees.{SourceTree};
-ghost use Rattle.midl_parse.specs.SourceGrammar.{IsSource};
-ghost use Rattle.midl_parse.specs.SourceReading.{source_at};
-ghost use Rattle.midl_parse.specs.SourceFaults.{StandsAt};
-ghost use Rattle.midl_parse.specs.SourceViews.{source_view};
+ghost use Rattle.midl_words.specs.Reading.{Gives};
+ghost use Rattle.midl_tree.specs.Trees.{SourceTree};
+ghost use Rattle.midl_parse.specs.Files.{IsSource};
+ghost use Rattle.midl_parse.specs.ReadFiles.{source_at};
+ghost use Rattle.midl_parse.specs.Faults.{StandsAt};
+ghost use Rattle.midl_tree.specs.Views.{source_view};
 
-use crate::items::{imports_of, spaces_of};
-use crate::nodes::File;
-use crate::stop::{Code, Stop};
-use crate::symbol::Terminal;
+use crate::imports::imports_of;
+use crate::items::spaces_of;
+use midl_tree::{File, Terminal};
+use midl_words::{Code, Stop};
 use std::alloc::Global;
 
 /// How many levels of namespaces, and of type uses, there may be inside the first.
 const DEPTH: u32 = 15;
 
-#[tactic(auto, unfolding(crate::specs::SourceReading::source_at, crate::specs::SourceReading::source_with))]
+#[tactic(auto, unfolding(crate::specs::ReadFiles::source_at, crate::specs::ReadFiles::source_with))]
 fn all_of(alloc: Global, number: u32, tokens: &[Terminal]) -> Result<File, Stop>
     ensures gives { Gives source_view result (source_at tokens.now) }
     ensures number { IfOk result (λ file. file.number ≡ number) }

@@ -4,8 +4,8 @@ ghost use Rattle.std.specs.Prelude.{◌≡◌, ◌≤◌, length, None, Some, If
 ghost use Rattle.wr_base.specs.Codes.{rank_of};
 ghost use Rattle.midl_parse.specs.Entries.{code_of, end_of, entry_at, entry};
 
-use crate::stop::Code;
 use midl_lex::Token;
+use midl_words::Code;
 use ranked::{Memory, Name, Place};
 use std::alloc::Global;
 use wr_base::Refusal;

@@ -2,19 +2,18 @@
 
 ghost use Rattle.std.specs.Prelude.{◌≡◌, ◌∷◌, [], map, option_map, Some, None, false, true};
 ghost use Rattle.grammar.specs.Readers.{starts, many_at, after_front, either_at, optional_at, bar_at};
-ghost use Rattle.midl_parse.specs.declared.kind.Kind.TheVariants.{Namespace, Comma, Dot, Out, Void, Event, Static, Text, Base, Float, OpenBracket, Import, Guid};
-ghost use Rattle.midl_parse.specs.Kinds.{number_of, names, no_attributes};
-ghost use Rattle.midl_parse.specs.Symbols.{kind_of};
-ghost use Rattle.midl_parse.specs.Reading.{Gives, behind_at};
-ghost use Rattle.midl_parse.specs.SourceReading.{base_at, args_at, param_at, params_at, listed_at, void_at, some_type_at, result_at, delegate_at};
-ghost use Rattle.midl_parse.specs.SourceViews.{type_view, param_view, delegate_view};
+ghost use Rattle.midl_tree.specs.declared.kind.Kind.TheVariants.{Namespace, Comma, Dot, Out, Void, Event, Static, Text, Base, Float, OpenBracket, Import, Guid};
+ghost use Rattle.midl_tree.specs.Kinds.{number_of, names, no_attributes};
+ghost use Rattle.midl_tree.specs.Symbols.{kind_of};
+ghost use Rattle.midl_words.specs.Reading.{Gives, behind_at};
+ghost use Rattle.midl_parse.specs.ReadTypes.{base_at, args_at};
+ghost use Rattle.midl_parse.specs.ReadSignatures.{param_at, params_at, void_at, some_type_at, result_at, delegate_at};
+ghost use Rattle.midl_parse.specs.ReadLists.{listed_at};
+ghost use Rattle.midl_tree.specs.Views.{type_view, param_view, delegate_view};
 
-use crate::kind::Kind;
-use crate::nodes::{DelegateNode, ParamNode, TypeNode};
-use crate::reading::{begins, take, take_if, take_name, take_own_name};
-use crate::stop::Stop;
-use crate::symbol::Terminal;
 use crate::types::type_of;
+use midl_tree::{DelegateNode, Kind, ParamNode, Terminal, TypeNode};
+use midl_words::{Stop, begins, take, take_if, take_name, take_own_name};
 use std::alloc::Global;
 
 fn begins_param(tokens: &[Terminal]) -> bool
@@ -26,7 +25,7 @@ fn begins_param(tokens: &[Terminal]) -> bool
     }
 }
 
-#[tactic(auto, unfolding(crate::specs::SourceReading::param_at))]
+#[tactic(auto, unfolding(crate::specs::ReadSignatures::param_at))]
 fn param_of(
     alloc: Global,
     depth: u32,
@@ -40,7 +39,7 @@ fn param_of(
     Ok((ParamNode { out, kind, name }, rest))
 }
 
-#[tactic(auto, unfolding(crate::specs::Reading::behind_at))]
+#[tactic(auto, unfolding(midl_words::specs::Reading::behind_at))]
 fn comma_param(
     alloc: Global,
     depth: u32,
@@ -69,7 +68,7 @@ fn more_params(
     Ok((params, rest))
 }
 
-#[tactic(auto, unfolding(crate::specs::SourceReading::listed_at))]
+#[tactic(auto, unfolding(crate::specs::ReadLists::listed_at))]
 fn listed_params(
     alloc: Global,
     depth: u32,
@@ -83,7 +82,7 @@ fn listed_params(
     more_params(alloc, depth, params, rest)
 }
 
-#[tactic(auto, unfolding(crate::specs::SourceReading::params_at))]
+#[tactic(auto, unfolding(crate::specs::ReadSignatures::params_at))]
 pub(crate) fn params_of(
     alloc: Global,
     depth: u32,
@@ -104,7 +103,7 @@ pub(crate) fn params_of(
     Ok((params, rest))
 }
 
-#[tactic(auto, unfolding(crate::specs::SourceReading::result_at, crate::specs::SourceReading::void_at, crate::specs::SourceReading::some_type_at))]
+#[tactic(auto, unfolding(crate::specs::ReadSignatures::result_at, crate::specs::ReadSignatures::void_at, crate::specs::ReadSignatures::some_type_at))]
 fn result_of(
     alloc: Global,
     depth: u32,
@@ -120,7 +119,7 @@ fn result_of(
     Ok((Some(kind), rest))
 }
 
-#[tactic(auto, unfolding(crate::specs::SourceReading::delegate_at))]
+#[tactic(auto, unfolding(crate::specs::ReadSignatures::delegate_at))]
 pub(crate) fn delegate_of(
     alloc: Global,
     depth: u32,

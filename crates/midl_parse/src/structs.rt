@@ -2,23 +2,21 @@
 
 ghost use Rattle.std.specs.Prelude.{◌≡◌, ◌∷◌, [], map, option_map, Some, None, false, true};
 ghost use Rattle.grammar.specs.Readers.{starts, many_at, after_front, either_at, optional_at, bar_at};
-ghost use Rattle.midl_parse.specs.declared.kind.Kind.TheVariants.{Namespace, Comma, Dot, Out, Void, Event, Static, Text, Base, Float, OpenBracket, Import, Guid};
-ghost use Rattle.midl_parse.specs.Kinds.{number_of, names, no_attributes};
-ghost use Rattle.midl_parse.specs.Symbols.{kind_of};
-ghost use Rattle.midl_parse.specs.Reading.{Gives};
-ghost use Rattle.midl_parse.specs.SourceReading.{base_at, args_at, fields_at, struct_at};
-ghost use Rattle.midl_parse.specs.SourceViews.{fields_view, struct_view};
+ghost use Rattle.midl_tree.specs.declared.kind.Kind.TheVariants.{Namespace, Comma, Dot, Out, Void, Event, Static, Text, Base, Float, OpenBracket, Import, Guid};
+ghost use Rattle.midl_tree.specs.Kinds.{number_of, names, no_attributes};
+ghost use Rattle.midl_tree.specs.Symbols.{kind_of};
+ghost use Rattle.midl_words.specs.Reading.{Gives};
+ghost use Rattle.midl_parse.specs.ReadTypes.{base_at, args_at};
+ghost use Rattle.midl_parse.specs.ReadStructs.{fields_at, struct_at};
+ghost use Rattle.midl_tree.specs.Views.{fields_view, struct_view};
 
-use crate::kind::Kind;
 use crate::lists::names_of;
-use crate::nodes::{FieldsNode, StructNode};
-use crate::reading::{begins_name, take, take_if, take_own_name};
-use crate::stop::Stop;
-use crate::symbol::Terminal;
 use crate::types::type_of;
+use midl_tree::{FieldsNode, Kind, StructNode, Terminal};
+use midl_words::{Stop, begins_name, take, take_if, take_own_name};
 use std::alloc::Global;
 
-#[tactic(auto, unfolding(crate::specs::SourceReading::fields_at))]
+#[tactic(auto, unfolding(crate::specs::ReadStructs::fields_at))]
 fn fields_of(
     alloc: Global,
     depth: u32,
@@ -49,7 +47,7 @@ fn all_fields(
     Ok((groups, rest))
 }
 
-#[tactic(auto, unfolding(crate::specs::SourceReading::struct_at))]
+#[tactic(auto, unfolding(crate::specs::ReadStructs::struct_at))]
 pub(crate) fn struct_of(
     alloc: Global,
     depth: u32,

@@ -2,19 +2,17 @@
 
 ghost use Rattle.std.specs.Prelude.{◌≡◌, ◌∷◌, [], map, option_map, Some, None, false, true};
 ghost use Rattle.grammar.specs.Readers.{starts, many_at, after_front, either_at, optional_at, bar_at};
-ghost use Rattle.midl_parse.specs.declared.kind.Kind.TheVariants.{Namespace, Comma, Dot, Out, Void, Event, Static, Text, Base, Float, OpenBracket, Import, Guid};
-ghost use Rattle.midl_parse.specs.Kinds.{number_of, names, no_attributes};
-ghost use Rattle.midl_parse.specs.Symbols.{kind_of};
-ghost use Rattle.midl_parse.specs.Reading.{Gives, behind_at};
-ghost use Rattle.midl_parse.specs.SourceReading.{base_at, listed_at, path_at, bracketed_at, args_at, types_at};
-ghost use Rattle.midl_parse.specs.SourceViews.{type_view, types_view};
+ghost use Rattle.midl_tree.specs.declared.kind.Kind.TheVariants.{Namespace, Comma, Dot, Out, Void, Event, Static, Text, Base, Float, OpenBracket, Import, Guid};
+ghost use Rattle.midl_tree.specs.Kinds.{number_of, names, no_attributes};
+ghost use Rattle.midl_tree.specs.Symbols.{kind_of};
+ghost use Rattle.midl_words.specs.Reading.{Gives, behind_at};
+ghost use Rattle.midl_parse.specs.Lists.{or_none};
+ghost use Rattle.midl_parse.specs.ReadTypes.{base_at, path_at, bracketed_at, args_at, types_at};
+ghost use Rattle.midl_parse.specs.ReadLists.{listed_at};
+ghost use Rattle.midl_tree.specs.Views.{type_view, types_view};
 
-use crate::ident::Ident;
-use crate::kind::Kind;
-use crate::nodes::TypeNode;
-use crate::reading::{begins, more_dots, take, take_own_name};
-use crate::stop::{Code, Stop};
-use crate::symbol::Terminal;
+use midl_tree::{Ident, Kind, Terminal, TypeNode};
+use midl_words::{Code, Stop, base_by, begins, more_dots, take, take_own_name};
 use std::alloc::Global;
 
 pub(crate) fn begins_base(tokens: &[Terminal]) -> bool
@@ -26,7 +24,7 @@ pub(crate) fn begins_base(tokens: &[Terminal]) -> bool
     }
 }
 
-#[tactic(auto, unfolding(crate::specs::SourceReading::base_at, crate::specs::SourceReading::base_word_at))]
+#[tactic(auto, unfolding(crate::specs::ReadTypes::base_at, crate::specs::ReadTypes::base_word_at))]
 pub(crate) fn base_of(tokens: &[Terminal]) -> Result<(TypeNode, &[Terminal]), Stop>
     ensures { Gives (λ x. (type_view x.0, x.1.now)) result (base_at tokens.now) }
 {
@@ -34,10 +32,10 @@ pub(crate) fn base_of(tokens: &[Terminal]) -> Result<(TypeNode, &[Terminal]), St
         return Err(Stop::Fault(Code::FloatType, tokens.len()));
     }
     let (word, rest) = take(tokens, Kind::Base)?;
-    Ok((TypeNode::Base(word.clone()?), rest))
+    Ok((TypeNode::Base(base_by(word.as_str())), rest))
 }
 
-#[tactic(auto, unfolding(crate::specs::SourceReading::path_at))]
+#[tactic(auto, unfolding(crate::specs::ReadTypes::path_at))]
 fn path_of(alloc: Global, tokens: &[Terminal]) -> Result<(Vec<Ident>, &[Terminal]), Stop>
     ensures { Gives (λ x. (x.0.items, x.1.now)) result (path_at tokens.now) }
 {
@@ -48,7 +46,7 @@ fn path_of(alloc: Global, tokens: &[Terminal]) -> Result<(Vec<Ident>, &[Terminal
 }
 
 #[cycle(types)]
-#[tactic(auto, unfolding(crate::specs::SourceReading::type_at, crate::specs::SourceReading::path_type_at))]
+#[tactic(auto, unfolding(crate::specs::ReadTypes::type_at, crate::specs::ReadTypes::path_type_at))]
 pub(crate) fn type_of(
     alloc: Global,
     depth: u32,
@@ -65,7 +63,7 @@ pub(crate) fn type_of(
 }
 
 #[cycle(types)]
-#[tactic(auto, unfolding(crate::specs::SourceReading::arguments_at))]
+#[tactic(auto, unfolding(crate::specs::ReadTypes::arguments_at))]
 pub(crate) fn arguments_of(
     alloc: Global,
     depth: u32,
@@ -83,7 +81,7 @@ pub(crate) fn arguments_of(
 }
 
 #[cycle(types)]
-#[tactic(auto, unfolding(crate::specs::SourceReading::bracketed_at, crate::specs::SourceReading::listed_at))]
+#[tactic(auto, unfolding(crate::specs::ReadTypes::bracketed_at, crate::specs::ReadLists::listed_at))]
 fn bracketed_of(
     alloc: Global,
     depth: u32,
@@ -101,7 +99,7 @@ fn bracketed_of(
 }
 
 #[cycle(types)]
-#[tactic(auto, unfolding(crate::specs::Reading::behind_at))]
+#[tactic(auto, unfolding(midl_words::specs::Reading::behind_at))]
 fn comma_type(
     alloc: Global,
     depth: u32,
@@ -131,7 +129,7 @@ fn more_types(
     Ok((types, rest))
 }
 
-#[tactic(auto, unfolding(crate::specs::SourceReading::listed_at))]
+#[tactic(auto, unfolding(crate::specs::ReadLists::listed_at))]
 pub(crate) fn types_of(
     alloc: Global,
     depth: u32,
@@ -143,4 +141,14 @@ pub(crate) fn types_of(
     let mut types = Vec::new(alloc);
     types.push(first)?;
     more_types(alloc, depth, types, rest)
+}
+
+/// A list that may be left out.
+pub(crate) fn or_none(alloc: Global, types: Option<Vec<TypeNode>>) -> Vec<TypeNode>
+    ensures { types_view result.items ≡ or_none (option_map (λ v. types_view v.items) types) }
+{
+    match types {
+        None => Vec::new(alloc),
+        Some(types) => types,
+    }
 }

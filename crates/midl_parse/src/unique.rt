@@ -4,9 +4,9 @@ ghost use Rattle.std.specs.Prelude.{◌≡◌, List, Some, None, map};
 ghost use Rattle.ranked.specs.Entries.{Entry};
 ghost use Rattle.ranked.specs.First.{IsFirst};
 ghost use Rattle.midl_lex.specs.Pieces.{Piece};
-ghost use Rattle.midl_parse.specs.Words.{terminal_of};
-ghost use Rattle.midl_parse.specs.SourceTrees.{SourceTree};
-ghost use Rattle.midl_parse.specs.SourceGrammar.{IsSource};
+ghost use Rattle.midl_words.specs.Words.{terminal_of};
+ghost use Rattle.midl_tree.specs.Trees.{SourceTree};
+ghost use Rattle.midl_parse.specs.Files.{IsSource};
 ghost use Rattle.midl_parse.specs.Entries.{Parsing};
 
 /// Tokens have at most one tree.

@@ -40,7 +40,7 @@ pub static TREES: [(&[u8], Want); 20] = [
     ),
     (
         b"namespace N { delegate A<Int32, B.C<Char16>> D(Int32 a, out Guid b); }",
-        Want::Tree("N{delegate A<Int32,B.C<Char16,>,> D(Int32 a,out Guid b,)}"),
+        Want::Tree("N{delegate A<Int32,B.C<Char,>,> D(Int32 a,out Guid b,)}"),
     ),
     (
         b"namespace N { interface I { } }",
@@ -80,7 +80,7 @@ pub static TREES: [(&[u8], Want); 20] = [
     // Words with a meaning elsewhere are names here.
     (
         b"namespace get.Int32 { struct version { uuid flags; set Single; Char16 Int32; } }",
-        Want::Tree("get.Int32{struct version(uuid flags;set Single;Char16 Int32;)}"),
+        Want::Tree("get.Int32{struct version(uuid flags;set Single;Char Int32;)}"),
     ),
 ];
 

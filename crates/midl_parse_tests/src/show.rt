@@ -1,10 +1,11 @@
 //! A file's tree as a text that is short enough to be written by hand.
 
-use midl_parse::{
+use midl_tree::{
     AttributeNode, CaseNode, ClassMemberNode, ClassNode, DeclNode, DelegateNode, EnumNode, File,
     Ident, InterfaceNode, ItemNode, MemberNode, ParamNode, StructNode, Terminal, TypeNode, Value,
 };
 use std::alloc::AllocError;
+use wr_base::Base;
 
 /// Idents, with a text between each two.
 fn idents(out: &mut String, parts: &[Ident], between: &str) -> Result<(), AllocError> {
@@ -26,10 +27,27 @@ fn terminals(out: &mut String, parts: &[Terminal]) -> Result<(), AllocError> {
     Ok(())
 }
 
+fn base_word(base: &Base) -> &'static str {
+    match base {
+        Base::Boolean => "Boolean",
+        Base::Char => "Char",
+        Base::U8 => "UInt8",
+        Base::I16 => "Int16",
+        Base::U16 => "UInt16",
+        Base::I32 => "Int32",
+        Base::U32 => "UInt32",
+        Base::I64 => "Int64",
+        Base::U64 => "UInt64",
+        Base::Text => "String",
+        Base::Guid => "Guid",
+        Base::Object => "Object",
+    }
+}
+
 /// `Int32`, or `A.B<Int32,C>`.
 fn type_use(out: &mut String, node: &TypeNode) -> Result<(), AllocError> {
     match node {
-        TypeNode::Base(word) => out.push_str(word.as_str())?,
+        TypeNode::Base(base) => out.push_str(base_word(base))?,
         TypeNode::Named(path, types) => {
             idents(out, path, ".")?;
             if types.is_empty() {

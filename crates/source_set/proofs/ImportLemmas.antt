@@ -5,7 +5,7 @@ use Rattle.std.proofs.lemmas.List.Sums.{fold-append}
 use Rattle.std.proofs.lemmas.Grind.{flat_map-append}
 use Rattle.std.proofs.lemmas.Option.{slice_get_within, get_or_from_slice_get}
 use Rattle.std.specs.List.{flat_map}
-use Rattle.midl_parse.specs.Symbols.{Symbol}
+use Rattle.midl_tree.specs.Symbols.{Symbol}
 use Rattle.source_set.specs.Found.{with_name, with_names, first_names}
 use Rattle.source_set.specs.Imports.{unquoted, adds_file, text_of}
 use Rattle.source_set.proofs.NameLemmas.{first_joined, once_only}

@@ -11,11 +11,11 @@ use Rattle.wr_outside.specs.Files.{Files}
 use Rattle.midl_lex.proofs.Entering.{nothing_entered}
 use Rattle.midl_lex.proofs.Cutting.{one_list}
 use Rattle.midl_parse.proofs.Entering.{nothing_entered as nothing_unparsed}
-use Rattle.midl_parse.proofs.SourceWholes.{one_source}
+use Rattle.midl_parse.proofs.OneTree.{one_source}
 use Rattle.midl_parse.specs.Entries.{Parsing}
-use Rattle.midl_parse.specs.SourceGrammar.{IsSource}
-use Rattle.midl_parse.specs.SourceTrees.{SourceTree}
-use Rattle.midl_parse.specs.Words.{terminal_of}
+use Rattle.midl_parse.specs.Files.{IsSource}
+use Rattle.midl_tree.specs.Trees.{SourceTree}
+use Rattle.midl_words.specs.Words.{terminal_of}
 use Rattle.source_set.specs.Events.{Event, too_many, missing, too_long, refused, IsNext, Follows, Begins, Holds, StopsAt, FirstEvent, NoEvent}
 use Rattle.source_set.specs.Found.{Read, found, room}
 use Rattle.source_set.specs.Phases.{HasTree, Unparsed, Faulty}

@@ -4,7 +4,7 @@ use Rattle.std.proofs.lemmas.List.{length-map, length-append, map-append}
 use Rattle.std.proofs.lemmas.List.Sums.{sum_by-append}
 use Rattle.std.specs.FinMap as finite
 use Rattle.wr_outside.specs.Files.{Files}
-use Rattle.midl_parse.specs.SourceViews.{source_view}
+use Rattle.midl_tree.specs.Views.{source_view}
 use Rattle.source_set.specs.declared.source.Source.{Source}
 use Rattle.source_set.specs.Events.{IsNext, Follows, Begins, Holds}
 use Rattle.source_set.specs.Found.{Read, with_names, once, found, first_names, size_of, room, imports_in}

@@ -11,8 +11,7 @@ use Rattle.midl_lex.specs.Faults.{IsFault, FirstFault, RefusedFirst, entry}
 use Rattle.midl_lex.specs.Laws.{IsOnly}
 use Rattle.midl_lex.specs.Pieces.{Piece}
 use Rattle.midl_lex.specs.Tokens.{Lexes}
-use Rattle.midl_parse.specs.Entries.{Parsing}
-use Rattle.midl_parse.specs.Entries.{RefusedFirst as ParseRefused}
+use Rattle.midl_parse.specs.Entries.{Parsing, RefusedFirst as ParseRefused}
 use Rattle.source_set.specs.Phases.{Unparsed, Faulty, RefusesFile}
 
 -- a lexical fault that is first is that of the file

@@ -2,7 +2,7 @@
 use Rattle.std.specs.Prelude.{ℕ, ◌-◌, min, List, [], ◌∷◌, ◌++◌, length, take, if◌then◌else◌}
 use Rattle.std.specs.List.{fold, list_any, flat_map, sum_by}
 use Rattle.std.specs.Str.{bytes_eq}
-use Rattle.midl_parse.specs.SourceTrees.{SourceTree}
+use Rattle.midl_tree.specs.Trees.{SourceTree}
 use Rattle.source_set.specs.Imports.{imported}
 
 -- the names with this one behind them, where it isn't among them

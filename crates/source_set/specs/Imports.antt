@@ -4,8 +4,8 @@ use Rattle.std.specs.List.{flat_map, starts_with, ends_with}
 use Rattle.std.specs.Bool.{nat_eq}
 use Rattle.std.specs.Char.{to_ascii_lowercase}
 use Rattle.std.specs.Str.{bytes_eq}
-use Rattle.midl_parse.specs.Symbols.{Symbol}
-use Rattle.midl_parse.specs.SourceTrees.{SourceTree}
+use Rattle.midl_tree.specs.Symbols.{Symbol}
+use Rattle.midl_tree.specs.Trees.{SourceTree}
 use Rattle.source_set.specs.Parts.{up_to_last, behind_last, without_first}
 
 -- a text without the quotation marks at its ends

@@ -7,9 +7,9 @@ use Rattle.ranked.specs.declared.stop.Stop.TheVariants.{Refused, Memory}
 use Rattle.midl_lex.specs.Pieces.{Piece}
 use Rattle.midl_lex.specs.Tokens.{Lexes}
 use Rattle.midl_lex.specs.Entries.{Lexical}
-use Rattle.midl_parse.specs.Words.{terminal_of}
-use Rattle.midl_parse.specs.SourceTrees.{SourceTree}
-use Rattle.midl_parse.specs.SourceGrammar.{IsSource}
+use Rattle.midl_words.specs.Words.{terminal_of}
+use Rattle.midl_tree.specs.Trees.{SourceTree}
+use Rattle.midl_parse.specs.Files.{IsSource}
 use Rattle.midl_parse.specs.Entries.{Parsing}
 
 -- the bytes have these tokens, and the tokens this tree

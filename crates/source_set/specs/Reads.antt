@@ -1,7 +1,7 @@
 -- What the sources of an answer are.
 use Rattle.std.specs.Prelude.{◌≡◌, ℕ, List, Some, slice_get, string_bytes, Option, IfSome}
 use Rattle.wr_outside.specs.Files.{Files}
-use Rattle.midl_parse.specs.SourceViews.{source_view}
+use Rattle.midl_tree.specs.Views.{source_view}
 use Rattle.source_set.specs.declared.source.Source.{Source}
 use Rattle.source_set.specs.Found.{Read}
 

@@ -3,7 +3,7 @@ use Rattle.std.specs.Prelude.{◌≡◌, ℕ, ◌<◌, ◌≤◌, List, length, 
 use Rattle.std.specs.FinMap as map
 use Rattle.ranked.specs.First.{IsFirst}
 use Rattle.wr_outside.specs.Files.{Files}
-use Rattle.midl_parse.specs.SourceViews.{source_view}
+use Rattle.midl_tree.specs.Views.{source_view}
 use Rattle.source_set.specs.declared.source.Source.{Source}
 use Rattle.source_set.specs.declared.source.SourceStop.{SourceStop}
 use Rattle.source_set.specs.declared.source.SourceStop.TheVariants.{TooMany, Missing, TooLong, ReadFault, Refused, Memory}

@@ -2,14 +2,14 @@
 
 ghost use Rattle.std.specs.Prelude.{◌≡◌, IfOk, OnOk, map};
 ghost use Rattle.std.specs.List.{flat_map};
-ghost use Rattle.midl_parse.specs.SourceViews.{source_view};
+ghost use Rattle.midl_tree.specs.Views.{source_view};
 ghost use Rattle.source_set.specs.Found.{with_name, with_names, once, first_names};
 ghost use Rattle.source_set.specs.Imports.{behind_folder, text_of, texts_of, imported};
 
 use crate::distinct::Distinct;
 use crate::names::Names;
 use crate::texts::{adds_file, behind_folder, unquoted};
-use midl_parse::{File, Terminal};
+use midl_tree::{File, Terminal};
 use std::alloc::{AllocError, Global};
 
 fn add_text(alloc: Global, texts: &mut Distinct, import: &Terminal) -> Result<(), AllocError>

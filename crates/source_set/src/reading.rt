@@ -2,14 +2,15 @@
 
 ghost use Rattle.std.specs.Prelude.{◌≡◌, ◌≤◌, length, IfOk, IfErr, string_bytes};
 ghost use Rattle.wr_outside.specs.Cause.{Rose};
-ghost use Rattle.midl_parse.specs.SourceViews.{source_view};
+ghost use Rattle.midl_tree.specs.Views.{source_view};
 ghost use Rattle.source_set.specs.Phases.{HasTree, RefusesFile};
 ghost use Rattle.source_set.specs.Stops.{IsReadFault};
 ghost use Rattle.source_set.specs.Turns.{Turn};
 
 use crate::source::{FaultySource, Source, SourceStop};
 use midl_lex::{fault_is_first_entry, tokens, tokens_or_fault};
-use midl_parse::{File, parse};
+use midl_parse::parse;
+use midl_tree::File;
 use std::alloc::Global;
 use wr_base::{Refusal, Stop};
 use wr_outside::{ReadRefusal, Store, read_whole};

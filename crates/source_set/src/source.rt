@@ -2,7 +2,7 @@
 
 ghost use Rattle.std.specs.Prelude.{◌≡◌};
 
-use midl_parse::File;
+use midl_tree::File;
 use std::alloc::{AllocError, AllocFailed};
 use wr_base::Refusal;
 

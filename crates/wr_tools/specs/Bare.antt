@@ -1,7 +1,7 @@
 -- Sources without attributes.
 use Rattle.std.specs.Prelude.{Bool, true, false, ◌&&◌, List, [], ◌∷◌}
 use Rattle.std.specs.List.{list_all}
-use Rattle.midl_parse.specs.SourceTrees.{AttributeTree, ItemTree, space, declared, ItemTrees, no_items, item_and, SourceTree}
+use Rattle.midl_tree.specs.Trees.{AttributeTree, ItemTree, space, declared, ItemTrees, no_items, item_and, SourceTree}
 
 abbrev pub has_none : List (List AttributeTree) → Bool
 has_none [] = true

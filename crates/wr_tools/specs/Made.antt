@@ -3,8 +3,8 @@ use Rattle.std.specs.Prelude.{◌≡◌, ℕ, Option, None, Some, List, [], ◌�
 use Rattle.std.specs.declared.alloc.Global.{Global}
 use Rattle.std.specs.List.{list_all}
 use Rattle.wr_base.specs.declared.declaration.Declaration.{Declaration}
-use Rattle.midl_parse.specs.declared.nodes.File.{File}
-use Rattle.midl_parse.specs.SourceViews.{source_view}
+use Rattle.midl_tree.specs.declared.nodes.File.{File}
+use Rattle.midl_tree.specs.Views.{source_view}
 use Rattle.midl_names.specs.declared.placed.PlacedItem.{PlacedItem}
 use Rattle.midl_names.specs.declared.placed.Written.TheVariants.{Done}
 use Rattle.source_set.specs.declared.source.Source.{Source}

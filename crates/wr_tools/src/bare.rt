@@ -2,10 +2,10 @@
 
 ghost use Rattle.std.specs.Prelude.{◌≡◌, map};
 ghost use Rattle.std.specs.List.{list_all};
-ghost use Rattle.midl_parse.specs.SourceViews.{attribute_view, item_view, source_view};
+ghost use Rattle.midl_tree.specs.Views.{attribute_view, item_view, source_view};
 ghost use Rattle.wr_tools.specs.Bare.{has_none, is_bare, source_is_bare};
 
-use midl_parse::{AttributeNode, File, ItemNode};
+use midl_tree::{AttributeNode, File, ItemNode};
 
 fn has_none(groups: &[Vec<AttributeNode>]) -> bool
     ensures { result ≡ has_none (map (λ g. map attribute_view g.items) groups.now) }

@@ -8,7 +8,7 @@ use crate::bare::are_bare;
 use crate::small::is_small_enum;
 use enum_image::enum_image;
 use midl_names::{PlacedItem, Written};
-use midl_parse::File;
+use midl_tree::File;
 use std::alloc::Global;
 use wr_base::{Declaration, Memory};
 

@@ -5,7 +5,7 @@ ghost use Rattle.source_set.specs.Lines.{IsRefusalLine};
 ghost use Rattle.wr_tools.specs.Sets.{text_in};
 ghost use Rattle.wr_tools.specs.Made.{text_of_source, text_view};
 
-use midl_parse::File;
+use midl_tree::File;
 use source_set::{Source, refusal_line};
 use std::alloc::Global;
 use wr_base::{Memory, Refusal};

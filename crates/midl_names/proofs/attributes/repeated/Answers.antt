@@ -4,7 +4,7 @@ use Rattle.std.proofs.lemmas.Map.Text.{btree_set_updates_text}
 use Rattle.ranked.specs.First.{IsFirst}
 use Rattle.ranked.specs.Repeats.{Repeated}
 use Rattle.ranked.proofs.RepeatLaws.{seen_more, repeat_more}
-use Rattle.midl_parse.specs.SourceViews.{attribute_view}
+use Rattle.midl_tree.specs.Views.{attribute_view}
 use Rattle.midl_names.specs.Attributes.{called, attribute_entry}
 use Rattle.midl_names.specs.Views.{item_of, attributes_of}
 use Rattle.midl_names.proofs.Firsts.{viewed_repeats}

@@ -3,7 +3,7 @@ use Rattle.std.specs.BTreeSet.{contains_text}
 use Rattle.ranked.specs.First.{IsFirst, Below}
 use Rattle.ranked.specs.Repeats.{StandsBefore, RepeatAt}
 use Rattle.midl_names.specs.Views.{item_of}
-use Rattle.midl_parse.specs.SourceViews.{attribute_view}
+use Rattle.midl_tree.specs.Views.{attribute_view}
 use Rattle.midl_names.specs.Attributes.{called, attribute_entry}
 use Rattle.midl_names.proofs.attributes.repeated.Given as goal
 

@@ -1,10 +1,9 @@
 use Rattle.std.proofs.Common.{rules, arith, subst}
-use Rattle.midl_names.specs.Views.{item_of}
-use Rattle.midl_parse.specs.SourceViews.{attribute_view}
+use Rattle.midl_names.specs.Views.{item_of, attributes_of}
+use Rattle.midl_tree.specs.Views.{attribute_view}
 use Rattle.midl_names.specs.Attributes.{unfit}
 use Rattle.ranked.specs.First.{IsFirst, Among}
 use Rattle.midl_names.specs.Faults.{Gives}
-use Rattle.midl_names.specs.Views.{attributes_of}
 use Rattle.midl_names.proofs.Firsts.{viewed, one_more_given}
 use Rattle.ranked.proofs.FirstLaws.{none_below}
 use Rattle.midl_names.proofs.attributes.unfits.Goals as goal

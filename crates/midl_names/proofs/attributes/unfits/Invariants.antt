@@ -1,7 +1,7 @@
 use Rattle.ranked.specs.First.{IsFirst, Below, At}
 use Rattle.midl_names.specs.Faults.{Gives}
 use Rattle.midl_names.specs.Views.{item_of}
-use Rattle.midl_parse.specs.SourceViews.{attribute_view}
+use Rattle.midl_tree.specs.Views.{attribute_view}
 use Rattle.midl_names.specs.Attributes.{unfit}
 use Rattle.midl_names.proofs.attributes.unfits.Given as goal
 

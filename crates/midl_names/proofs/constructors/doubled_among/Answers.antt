@@ -1,6 +1,6 @@
 use Rattle.std.proofs.Common.{rules, arith}
 use Rattle.midl_names.specs.Views.{item_of}
-use Rattle.midl_parse.specs.SourceViews.{class_member_view}
+use Rattle.midl_tree.specs.Views.{class_member_view}
 use Rattle.midl_names.specs.Constructors.{doubled}
 use Rattle.midl_names.specs.Faults.{Gives}
 use Rattle.midl_names.proofs.Firsts.{viewed, one_more_given}

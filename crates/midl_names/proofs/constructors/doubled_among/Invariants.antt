@@ -1,7 +1,7 @@
 use Rattle.ranked.specs.First.{IsFirst, Below, At}
 use Rattle.midl_names.specs.Faults.{Gives}
 use Rattle.midl_names.specs.Views.{item_of}
-use Rattle.midl_parse.specs.SourceViews.{class_member_view}
+use Rattle.midl_tree.specs.Views.{class_member_view}
 use Rattle.midl_names.specs.Constructors.{doubled}
 use Rattle.midl_names.proofs.constructors.doubled_among.Given as goal
 

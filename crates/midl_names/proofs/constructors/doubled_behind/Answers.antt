@@ -2,7 +2,7 @@ use Rattle.std.proofs.Common.{◌≡◌, ◌<◌, List, [], ◌∷◌, map, leng
 use Rattle.ranked.specs.Entries.{Entry}
 use Rattle.ranked.specs.First.{IsFirst, Among}
 use Rattle.ranked.proofs.FirstLaws.{none_in}
-use Rattle.midl_parse.specs.SourceViews.{class_member_view}
+use Rattle.midl_tree.specs.Views.{class_member_view}
 use Rattle.midl_names.specs.Constructors.{doubled}
 use Rattle.midl_names.specs.Faults.{Gives}
 use Rattle.midl_names.specs.Views.{item_of}

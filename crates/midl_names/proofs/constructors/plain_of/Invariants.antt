@@ -1,6 +1,6 @@
 use Rattle.std.proofs.Common.{◌≡◌, map, take}
 use Rattle.std.specs.List.{filter}
-use Rattle.midl_parse.specs.SourceViews.{class_member_view}
+use Rattle.midl_tree.specs.Views.{class_member_view}
 use Rattle.midl_names.specs.Constructors.{is_plain}
 use Rattle.midl_names.proofs.constructors.plain_of.Given as goal
 

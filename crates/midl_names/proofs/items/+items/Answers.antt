@@ -1,9 +1,9 @@
 use Rattle.std.proofs.Common.{◌≡◌, ◌++◌, ap, sym, subst, ◌∙◌, OnOk, map, List}
-use Rattle.midl_parse.specs.declared.nodes.ItemNode.TheVariants.{rolls-Namespace}
-use Rattle.midl_parse.specs.declared.nodes.ItemNode.TheFolds.{fold-roll-ItemNode}
-use Rattle.midl_parse.specs.declared.nodes.ItemNode.TheOpen.{ItemNode-F}
-use Rattle.midl_parse.specs.SourceTrees.{ItemTree}
-use Rattle.midl_parse.specs.SourceViews.{item_step, item_view}
+use Rattle.midl_tree.specs.declared.nodes.ItemNode.TheVariants.{rolls-Namespace}
+use Rattle.midl_tree.specs.declared.nodes.ItemNode.TheFolds.{fold-roll-ItemNode}
+use Rattle.midl_tree.specs.declared.nodes.ItemNode.TheOpen.{ItemNode-F}
+use Rattle.midl_tree.specs.Trees.{ItemTree}
+use Rattle.midl_tree.specs.Views.{item_step, item_view}
 use Rattle.midl_names.specs.Items.{Item, items_in, texts}
 use Rattle.midl_names.specs.Views.{item_of, parts_of}
 use Rattle.midl_names.proofs.Nested.{block}

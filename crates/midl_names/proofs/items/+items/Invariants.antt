@@ -1,6 +1,6 @@
 use Rattle.std.proofs.Common.{◌≡◌, ◌++◌, take, map}
 use Rattle.std.specs.List.{flat_map}
-use Rattle.midl_parse.specs.SourceViews.{item_view}
+use Rattle.midl_tree.specs.Views.{item_view}
 use Rattle.midl_names.specs.Items.{items_in}
 use Rattle.midl_names.specs.Views.{item_of, parts_of}
 use Rattle.midl_names.proofs.items.+items.Given as goal

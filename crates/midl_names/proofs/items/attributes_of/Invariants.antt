@@ -1,6 +1,6 @@
 use Rattle.std.proofs.Common.{◌≡◌, map, take}
 use Rattle.std.specs.List.{flat_map}
-use Rattle.midl_parse.specs.SourceViews.{attribute_view}
+use Rattle.midl_tree.specs.Views.{attribute_view}
 use Rattle.midl_names.specs.Views.{attributes_of}
 use Rattle.midl_names.proofs.items.attributes_of.Given as goal
 

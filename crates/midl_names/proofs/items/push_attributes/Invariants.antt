@@ -1,5 +1,5 @@
 use Rattle.std.proofs.Common.{◌≡◌, ◌++◌, map, take}
-use Rattle.midl_parse.specs.SourceViews.{attribute_view}
+use Rattle.midl_tree.specs.Views.{attribute_view}
 use Rattle.midl_names.specs.Views.{attributes_of}
 use Rattle.midl_names.proofs.items.push_attributes.Given as goal
 

@@ -1,7 +1,7 @@
 use Rattle.std.proofs.Common.{◌≡◌, map, take}
 use Rattle.std.specs.BTreeMap.{get_by_text}
 use Rattle.std.specs.List.{flat_map}
-use Rattle.midl_parse.specs.SourceViews.{fields_view}
+use Rattle.midl_tree.specs.Views.{fields_view}
 use Rattle.midl_names.specs.Members.{fields_of}
 use Rattle.midl_names.specs.Views.{parts_of}
 use Rattle.midl_names.proofs.members.fields_of.Given as goal

@@ -1,7 +1,7 @@
 use Rattle.std.proofs.Common.{◌≡◌, ◌++◌, true, map, take}
 use Rattle.std.specs.BTreeMap.{get_by_text}
 use Rattle.wr_base.specs.declared.declaration.Member.TheVariants.{Property}
-use Rattle.midl_parse.specs.SourceViews.{type_view}
+use Rattle.midl_tree.specs.Views.{type_view}
 use Rattle.midl_names.specs.Resolved.{resolved}
 use Rattle.midl_names.specs.Views.{parts_of}
 use Rattle.midl_names.proofs.members.push_properties.Given as goal

@@ -1,6 +1,6 @@
 use Rattle.std.proofs.Common.{◌≡◌, ◌++◌, map, take}
 use Rattle.std.specs.List.{flat_map}
-use Rattle.midl_parse.specs.SourceViews.{class_member_view}
+use Rattle.midl_tree.specs.Views.{class_member_view}
 use Rattle.midl_names.specs.Declares.{constructor_name}
 use Rattle.midl_names.specs.Views.{idents_of}
 use Rattle.midl_names.proofs.parts.push_constructors.Given as goal

@@ -1,11 +1,11 @@
 use Rattle.std.proofs.Common.{ap, sym, ◌∙◌, map, take, arith}
 use Rattle.std.proofs.lemmas.List.{take_all}
 use Rattle.std.specs.BTreeMap.{get_by_text}
-use Rattle.midl_parse.specs.declared.nodes.TypeNode.TheVariants.{rolls-Named}
-use Rattle.midl_parse.specs.declared.nodes.TypeNode.TheFolds.{fold-roll-TypeNode}
-use Rattle.midl_parse.specs.declared.nodes.TypeNode.TheOpen.{TypeNode-F}
-use Rattle.midl_parse.specs.SourceTrees.{TypeTree}
-use Rattle.midl_parse.specs.SourceViews.{type_step, type_view}
+use Rattle.midl_tree.specs.declared.nodes.TypeNode.TheVariants.{rolls-Named}
+use Rattle.midl_tree.specs.declared.nodes.TypeNode.TheFolds.{fold-roll-TypeNode}
+use Rattle.midl_tree.specs.declared.nodes.TypeNode.TheOpen.{TypeNode-F}
+use Rattle.midl_tree.specs.Trees.{TypeTree}
+use Rattle.midl_tree.specs.Views.{type_step, type_view}
 use Rattle.midl_names.specs.Views.{parts_of}
 use Rattle.midl_names.proofs.UsesResolved.{resolved_here}
 use Rattle.midl_names.proofs.resolved.+resolved.Goals as goal

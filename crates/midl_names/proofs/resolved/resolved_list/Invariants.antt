@@ -1,6 +1,6 @@
 use Rattle.std.proofs.Common.{◌≡◌, map, take}
 use Rattle.std.specs.BTreeMap.{get_by_text}
-use Rattle.midl_parse.specs.SourceViews.{type_view}
+use Rattle.midl_tree.specs.Views.{type_view}
 use Rattle.midl_names.specs.Resolved.{resolved}
 use Rattle.midl_names.specs.Views.{parts_of}
 use Rattle.midl_names.proofs.resolved.resolved_list.Given as goal

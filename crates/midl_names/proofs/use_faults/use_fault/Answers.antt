@@ -2,11 +2,11 @@ use Rattle.std.proofs.Common.{◌≡◌, ap, sym, subst, ◌∙◌, arith, IfOk,
 use Rattle.std.proofs.lemmas.List.{length-map}
 use Rattle.std.specs.BTreeMap.{get_by_text}
 use Rattle.ranked.specs.Entries.{Entry}
-use Rattle.midl_parse.specs.declared.nodes.TypeNode.TheVariants.{rolls-Named}
-use Rattle.midl_parse.specs.declared.nodes.TypeNode.TheFolds.{fold-roll-TypeNode}
-use Rattle.midl_parse.specs.declared.nodes.TypeNode.TheOpen.{TypeNode-F}
-use Rattle.midl_parse.specs.SourceTrees.{TypeTree}
-use Rattle.midl_parse.specs.SourceViews.{type_step, type_view}
+use Rattle.midl_tree.specs.declared.nodes.TypeNode.TheVariants.{rolls-Named}
+use Rattle.midl_tree.specs.declared.nodes.TypeNode.TheFolds.{fold-roll-TypeNode}
+use Rattle.midl_tree.specs.declared.nodes.TypeNode.TheOpen.{TypeNode-F}
+use Rattle.midl_tree.specs.Trees.{TypeTree}
+use Rattle.midl_tree.specs.Views.{type_step, type_view}
 use Rattle.midl_names.specs.Views.{item_of}
 use Rattle.midl_names.proofs.UseLaws.{fault_named}
 use Rattle.midl_names.proofs.use_faults.use_fault.Goals as goal

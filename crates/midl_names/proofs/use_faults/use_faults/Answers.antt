@@ -2,8 +2,8 @@ use Rattle.std.proofs.Common.{rules, arith, subst, List}
 use Rattle.std.specs.BTreeMap.{get_by_text}
 use Rattle.ranked.specs.First.{IsFirst, Among}
 use Rattle.ranked.proofs.FirstLaws.{none_below}
-use Rattle.midl_parse.specs.SourceTrees.{TypeTree}
-use Rattle.midl_parse.specs.SourceViews.{type_view}
+use Rattle.midl_tree.specs.Trees.{TypeTree}
+use Rattle.midl_tree.specs.Views.{type_view}
 use Rattle.midl_names.specs.Faults.{Gives}
 use Rattle.midl_names.specs.Uses.{use_fault}
 use Rattle.midl_names.specs.Views.{item_of, types_of}

@@ -1,10 +1,10 @@
 use Rattle.std.proofs.Common.{◌++◌, ap, sym, ◌∙◌, map, take, List, arith}
 use Rattle.std.proofs.lemmas.List.{take_all}
-use Rattle.midl_parse.specs.declared.nodes.TypeNode.TheVariants.{rolls-Named}
-use Rattle.midl_parse.specs.declared.nodes.TypeNode.TheFolds.{fold-roll-TypeNode}
-use Rattle.midl_parse.specs.declared.nodes.TypeNode.TheOpen.{TypeNode-F}
-use Rattle.midl_parse.specs.SourceTrees.{TypeTree}
-use Rattle.midl_parse.specs.SourceViews.{type_step, type_view}
+use Rattle.midl_tree.specs.declared.nodes.TypeNode.TheVariants.{rolls-Named}
+use Rattle.midl_tree.specs.declared.nodes.TypeNode.TheFolds.{fold-roll-TypeNode}
+use Rattle.midl_tree.specs.declared.nodes.TypeNode.TheOpen.{TypeNode-F}
+use Rattle.midl_tree.specs.Trees.{TypeTree}
+use Rattle.midl_tree.specs.Views.{type_step, type_view}
 use Rattle.midl_names.specs.Views.{types_of}
 use Rattle.midl_names.proofs.Nested.{use_here}
 use Rattle.midl_names.proofs.uses.+push_uses.Goals as goal

@@ -1,6 +1,6 @@
 use Rattle.std.proofs.Common.{◌≡◌, ◌++◌, map, take}
 use Rattle.std.specs.List.{flat_map}
-use Rattle.midl_parse.specs.SourceViews.{member_view}
+use Rattle.midl_tree.specs.Views.{member_view}
 use Rattle.midl_names.specs.Uses.{member_uses}
 use Rattle.midl_names.specs.Views.{types_of}
 use Rattle.midl_names.proofs.uses.push_members.Given as goal

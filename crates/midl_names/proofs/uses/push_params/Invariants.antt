@@ -1,5 +1,5 @@
 use Rattle.std.proofs.Common.{◌≡◌, ◌++◌, map, take}
-use Rattle.midl_parse.specs.SourceViews.{param_view}
+use Rattle.midl_tree.specs.Views.{param_view}
 use Rattle.midl_names.specs.Uses.{param_uses}
 use Rattle.midl_names.specs.Views.{types_of}
 use Rattle.midl_names.proofs.uses.push_params.Given as goal

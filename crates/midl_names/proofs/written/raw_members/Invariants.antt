@@ -1,7 +1,7 @@
 use Rattle.std.proofs.Common.{◌≡◌, map, take}
 use Rattle.std.specs.BTreeMap.{get_by_text}
 use Rattle.std.specs.List.{flat_map}
-use Rattle.midl_parse.specs.SourceViews.{member_view}
+use Rattle.midl_tree.specs.Views.{member_view}
 use Rattle.midl_names.specs.Members.{members_of}
 use Rattle.midl_names.specs.Views.{parts_of}
 use Rattle.midl_names.proofs.written.raw_members.Given as goal

@@ -1,10 +1,10 @@
 use Rattle.std.proofs.Common.{◌≡◌, ◌∷◌, [], length, map}
 use Rattle.grammar.specs.Readers.{many_at, after_front}
-use Rattle.midl_parse.specs.declared.kind.Kind.TheVariants.{OpenBracket}
-use Rattle.midl_parse.specs.Kinds.{number_of}
-use Rattle.midl_parse.specs.Symbols.{kind_of}
-use Rattle.midl_parse.specs.SourceReading.{attribute_at, group_at}
-use Rattle.midl_parse.specs.SourceViews.{attribute_view}
+use Rattle.midl_tree.specs.declared.kind.Kind.TheVariants.{OpenBracket}
+use Rattle.midl_tree.specs.Kinds.{number_of}
+use Rattle.midl_tree.specs.Symbols.{kind_of}
+use Rattle.midl_parse.specs.ReadAttributes.{attribute_at, group_at}
+use Rattle.midl_tree.specs.Views.{attribute_view}
 use Rattle.midl_parse.proofs.attributes.groups_of.Given as goal
 
 abbrev pub invariant-more : goal.invariant-more

@@ -1,11 +1,11 @@
 use Rattle.std.proofs.Common.{◌≡◌, ◌∷◌, [], length, map}
 use Rattle.grammar.specs.Readers.{many_at, after_front}
-use Rattle.midl_parse.specs.declared.kind.Kind.TheVariants.{Comma}
-use Rattle.midl_parse.specs.Kinds.{number_of}
-use Rattle.midl_parse.specs.Symbols.{kind_of}
-use Rattle.midl_parse.specs.Reading.{behind_at}
-use Rattle.midl_parse.specs.SourceReading.{attribute_at}
-use Rattle.midl_parse.specs.SourceViews.{attribute_view}
+use Rattle.midl_tree.specs.declared.kind.Kind.TheVariants.{Comma}
+use Rattle.midl_tree.specs.Kinds.{number_of}
+use Rattle.midl_tree.specs.Symbols.{kind_of}
+use Rattle.midl_words.specs.Reading.{behind_at}
+use Rattle.midl_parse.specs.ReadAttributes.{attribute_at}
+use Rattle.midl_tree.specs.Views.{attribute_view}
 use Rattle.midl_parse.proofs.attributes.more_attributes.Given as goal
 
 abbrev pub invariant-more : goal.invariant-more

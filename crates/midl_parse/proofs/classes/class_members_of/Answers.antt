@@ -1,8 +1,8 @@
 use Rattle.std.proofs.Common.{sym, ◌∙◌, map}
 use Rattle.std.proofs.lemmas.Result.{err_from_is_err_and}
-use Rattle.midl_parse.specs.SourceViews.{class_member_view}
-use Rattle.midl_parse.proofs.Turns.{goes_on_by, fails, ends, turn_shorter, begun}
-use Rattle.midl_parse.proofs.SourceItems.{class_member_item}
+use Rattle.midl_tree.specs.Views.{class_member_view}
+use Rattle.midl_words.proofs.Turns.{goes_on_by, fails, ends, turn_shorter, begun}
+use Rattle.midl_parse.proofs.LoopItems.{class_member_item}
 use Rattle.midl_parse.proofs.classes.class_members_of.Goals as goal
 
 pub more-init : goal.more-init

@@ -1,10 +1,11 @@
 use Rattle.std.proofs.Common.{◌≡◌, ◌∷◌, length, map}
 use Rattle.grammar.specs.Readers.{many_at, after_front}
-use Rattle.midl_parse.specs.declared.kind.Kind.TheVariants.{Static, Void, Event}
-use Rattle.midl_parse.specs.Kinds.{number_of, names}
-use Rattle.midl_parse.specs.Symbols.{kind_of}
-use Rattle.midl_parse.specs.SourceReading.{base_at, args_at, class_member_at}
-use Rattle.midl_parse.specs.SourceViews.{class_member_view}
+use Rattle.midl_tree.specs.declared.kind.Kind.TheVariants.{Static, Void, Event}
+use Rattle.midl_tree.specs.Kinds.{number_of, names}
+use Rattle.midl_tree.specs.Symbols.{kind_of}
+use Rattle.midl_parse.specs.ReadTypes.{base_at, args_at}
+use Rattle.midl_parse.specs.ReadClasses.{class_member_at}
+use Rattle.midl_tree.specs.Views.{class_member_view}
 use Rattle.midl_parse.proofs.classes.class_members_of.Given as goal
 
 abbrev pub invariant-more : goal.invariant-more

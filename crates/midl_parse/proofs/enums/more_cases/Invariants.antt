@@ -1,6 +1,6 @@
 use Rattle.std.proofs.Common.{◌≡◌, length}
 use Rattle.grammar.specs.Readers.{after_front}
-use Rattle.midl_parse.specs.Reading.{more_cases_at}
+use Rattle.midl_parse.specs.ReadEnums.{more_cases_at}
 use Rattle.midl_parse.proofs.enums.more_cases.Given as goal
 
 abbrev pub invariant-more : goal.invariant-more

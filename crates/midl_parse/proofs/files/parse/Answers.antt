@@ -1,5 +1,5 @@
 use Rattle.std.proofs.Common.{◌∙◌}
-use Rattle.midl_parse.specs.SourceViews.{source_view}
+use Rattle.midl_tree.specs.Views.{source_view}
 use Rattle.midl_parse.proofs.Entering.{left_within, found_is, fault_is, found_only, found_first, refused_only, refused_first, refused_is}
 use Rattle.midl_parse.proofs.files.parse.Goals as goal
 

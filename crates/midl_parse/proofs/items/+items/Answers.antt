@@ -1,8 +1,8 @@
 use Rattle.std.proofs.Common.{sym, ◌∙◌, map}
 use Rattle.std.proofs.lemmas.Result.{err_from_is_err_and}
-use Rattle.midl_parse.specs.SourceViews.{item_view}
-use Rattle.midl_parse.proofs.Turns.{goes_on_by, fails, ends, turn_shorter, begun}
-use Rattle.midl_parse.proofs.SourceItems.{item_item}
+use Rattle.midl_tree.specs.Views.{item_view}
+use Rattle.midl_words.proofs.Turns.{goes_on_by, fails, ends, turn_shorter, begun}
+use Rattle.midl_parse.proofs.LoopItems.{item_item}
 use Rattle.midl_parse.proofs.items.+items.Goals as goal
 
 pub nested_of-more-init : goal.nested_of-more-init

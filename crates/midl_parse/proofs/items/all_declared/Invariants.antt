@@ -1,8 +1,11 @@
 use Rattle.std.proofs.Common.{◌≡◌, length, map}
 use Rattle.grammar.specs.Readers.{many_at, after_front}
-use Rattle.midl_parse.specs.Symbols.{kind_of}
-use Rattle.midl_parse.specs.SourceReading.{base_at, attribute_at, args_at, declared_at, declared_first}
-use Rattle.midl_parse.specs.SourceViews.{item_view}
+use Rattle.midl_tree.specs.Symbols.{kind_of}
+use Rattle.midl_parse.specs.ReadTypes.{base_at, args_at}
+use Rattle.midl_parse.specs.ReadAttributes.{attribute_at}
+use Rattle.midl_parse.specs.ReadItems.{declared_at}
+use Rattle.midl_tree.specs.Kinds.{declared_first}
+use Rattle.midl_tree.specs.Views.{item_view}
 use Rattle.midl_parse.proofs.items.all_declared.Given as goal
 
 abbrev pub invariant-more : goal.invariant-more

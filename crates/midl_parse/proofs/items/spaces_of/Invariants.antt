@@ -1,10 +1,12 @@
 use Rattle.std.proofs.Common.{◌≡◌, ◌∷◌, [], length, map}
 use Rattle.grammar.specs.Readers.{many_at, after_front}
-use Rattle.midl_parse.specs.declared.kind.Kind.TheVariants.{Namespace}
-use Rattle.midl_parse.specs.Kinds.{number_of}
-use Rattle.midl_parse.specs.Symbols.{kind_of}
-use Rattle.midl_parse.specs.SourceReading.{base_at, attribute_at, args_at, declared_at, space_with, items_at}
-use Rattle.midl_parse.specs.SourceViews.{item_view}
+use Rattle.midl_tree.specs.declared.kind.Kind.TheVariants.{Namespace}
+use Rattle.midl_tree.specs.Kinds.{number_of}
+use Rattle.midl_tree.specs.Symbols.{kind_of}
+use Rattle.midl_parse.specs.ReadTypes.{base_at, args_at}
+use Rattle.midl_parse.specs.ReadAttributes.{attribute_at}
+use Rattle.midl_parse.specs.ReadItems.{declared_at, space_with, items_at}
+use Rattle.midl_tree.specs.Views.{item_view}
 use Rattle.midl_parse.proofs.items.spaces_of.Given as goal
 
 abbrev pub invariant-more : goal.invariant-more

@@ -1,7 +1,7 @@
 use Rattle.std.proofs.Common.{sym, ◌∙◌}
 use Rattle.std.proofs.lemmas.Result.{err_from_is_err_and}
-use Rattle.midl_parse.proofs.Turns.{goes_on, fails, ends, turn_shorter}
-use Rattle.midl_parse.proofs.SourceItems.{name_item}
+use Rattle.midl_words.proofs.Turns.{goes_on, fails, ends, turn_shorter}
+use Rattle.midl_parse.proofs.LoopItems.{name_item}
 use Rattle.midl_parse.proofs.lists.more_names.Goals as goal
 
 pub returns-in_err-item : goal.returns-in_err-item

@@ -1,9 +1,9 @@
 use Rattle.std.proofs.Common.{◌≡◌, ◌∷◌, [], length}
 use Rattle.grammar.specs.Readers.{many_at, after_front}
-use Rattle.midl_parse.specs.declared.kind.Kind.TheVariants.{Comma}
-use Rattle.midl_parse.specs.Kinds.{number_of}
-use Rattle.midl_parse.specs.Symbols.{kind_of}
-use Rattle.midl_parse.specs.Reading.{name_at, behind_at}
+use Rattle.midl_tree.specs.declared.kind.Kind.TheVariants.{Comma}
+use Rattle.midl_tree.specs.Kinds.{number_of}
+use Rattle.midl_tree.specs.Symbols.{kind_of}
+use Rattle.midl_words.specs.Reading.{name_at, behind_at}
 use Rattle.midl_parse.proofs.lists.more_names.Given as goal
 
 abbrev pub invariant-more : goal.invariant-more

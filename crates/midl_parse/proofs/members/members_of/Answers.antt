@@ -1,8 +1,8 @@
 use Rattle.std.proofs.Common.{sym, ◌∙◌, map}
 use Rattle.std.proofs.lemmas.Result.{err_from_is_err_and}
-use Rattle.midl_parse.specs.SourceViews.{member_view}
-use Rattle.midl_parse.proofs.Turns.{goes_on_by, fails, ends, turn_shorter, begun}
-use Rattle.midl_parse.proofs.SourceItems.{member_item}
+use Rattle.midl_tree.specs.Views.{member_view}
+use Rattle.midl_words.proofs.Turns.{goes_on_by, fails, ends, turn_shorter, begun}
+use Rattle.midl_parse.proofs.LoopItems.{member_item}
 use Rattle.midl_parse.proofs.members.members_of.Goals as goal
 
 pub more-init : goal.more-init

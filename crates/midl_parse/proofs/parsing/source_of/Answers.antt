@@ -1,4 +1,4 @@
-use Rattle.midl_parse.proofs.SourceFiles.{is_found, is_only, is_fault}
+use Rattle.midl_parse.proofs.FileLaws.{is_found, is_only, is_fault}
 use Rattle.midl_parse.proofs.parsing.source_of.Goals as goal
 
 pub returns-clause-found : goal.returns-clause-found

@@ -1,4 +1,4 @@
-use Rattle.midl_parse.proofs.FromLexing.{piece_ascii}
+use Rattle.midl_words.proofs.FromLexing.{piece_ascii}
 use Rattle.midl_parse.proofs.refusal.at_token.Goals as goal
 
 pub from_ascii-requires : goal.from_ascii-requires

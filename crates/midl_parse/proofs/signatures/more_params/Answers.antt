@@ -1,8 +1,8 @@
 use Rattle.std.proofs.Common.{sym, ◌∙◌, map}
 use Rattle.std.proofs.lemmas.Result.{err_from_is_err_and}
-use Rattle.midl_parse.specs.SourceViews.{param_view}
-use Rattle.midl_parse.proofs.Turns.{goes_on_by, fails, ends, turn_shorter}
-use Rattle.midl_parse.proofs.SourceItems.{param_item}
+use Rattle.midl_tree.specs.Views.{param_view}
+use Rattle.midl_words.proofs.Turns.{goes_on_by, fails, ends, turn_shorter}
+use Rattle.midl_parse.proofs.LoopItems.{param_item}
 use Rattle.midl_parse.proofs.signatures.more_params.Goals as goal
 
 pub returns-in_err-item : goal.returns-in_err-item

@@ -1,11 +1,12 @@
 use Rattle.std.proofs.Common.{◌≡◌, ◌∷◌, [], length, map}
 use Rattle.grammar.specs.Readers.{many_at, after_front}
-use Rattle.midl_parse.specs.declared.kind.Kind.TheVariants.{Comma}
-use Rattle.midl_parse.specs.Kinds.{number_of}
-use Rattle.midl_parse.specs.Symbols.{kind_of}
-use Rattle.midl_parse.specs.Reading.{behind_at}
-use Rattle.midl_parse.specs.SourceReading.{base_at, args_at, param_at}
-use Rattle.midl_parse.specs.SourceViews.{param_view}
+use Rattle.midl_tree.specs.declared.kind.Kind.TheVariants.{Comma}
+use Rattle.midl_tree.specs.Kinds.{number_of}
+use Rattle.midl_tree.specs.Symbols.{kind_of}
+use Rattle.midl_words.specs.Reading.{behind_at}
+use Rattle.midl_parse.specs.ReadTypes.{base_at, args_at}
+use Rattle.midl_parse.specs.ReadSignatures.{param_at}
+use Rattle.midl_tree.specs.Views.{param_view}
 use Rattle.midl_parse.proofs.signatures.more_params.Given as goal
 
 abbrev pub invariant-more : goal.invariant-more

@@ -1,8 +1,8 @@
 use Rattle.std.proofs.Common.{sym, ◌∙◌, map}
 use Rattle.std.proofs.lemmas.Result.{err_from_is_err_and}
-use Rattle.midl_parse.specs.SourceViews.{fields_view}
-use Rattle.midl_parse.proofs.Turns.{goes_on_by, fails, ends, turn_shorter, begun}
-use Rattle.midl_parse.proofs.SourceItems.{fields_item}
+use Rattle.midl_tree.specs.Views.{fields_view}
+use Rattle.midl_words.proofs.Turns.{goes_on_by, fails, ends, turn_shorter, begun}
+use Rattle.midl_parse.proofs.LoopItems.{fields_item}
 use Rattle.midl_parse.proofs.structs.all_fields.Goals as goal
 
 pub more-init : goal.more-init

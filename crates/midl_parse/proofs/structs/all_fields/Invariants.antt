@@ -1,9 +1,10 @@
 use Rattle.std.proofs.Common.{◌≡◌, length, map}
 use Rattle.grammar.specs.Readers.{many_at, after_front}
-use Rattle.midl_parse.specs.Kinds.{names}
-use Rattle.midl_parse.specs.Symbols.{kind_of}
-use Rattle.midl_parse.specs.SourceReading.{base_at, args_at, fields_at}
-use Rattle.midl_parse.specs.SourceViews.{fields_view}
+use Rattle.midl_tree.specs.Kinds.{names}
+use Rattle.midl_tree.specs.Symbols.{kind_of}
+use Rattle.midl_parse.specs.ReadTypes.{base_at, args_at}
+use Rattle.midl_parse.specs.ReadStructs.{fields_at}
+use Rattle.midl_tree.specs.Views.{fields_view}
 use Rattle.midl_parse.proofs.structs.all_fields.Given as goal
 
 abbrev pub invariant-more : goal.invariant-more

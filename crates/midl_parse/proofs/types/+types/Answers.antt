@@ -1,8 +1,8 @@
 use Rattle.std.proofs.Common.{sym, ◌∙◌}
 use Rattle.std.proofs.lemmas.Result.{err_from_is_err_and}
-use Rattle.midl_parse.specs.SourceViews.{type_view, types_view}
-use Rattle.midl_parse.proofs.Turns.{goes_on_by, fails, ends, turn_shorter}
-use Rattle.midl_parse.proofs.SourceItems.{type_item}
+use Rattle.midl_tree.specs.Views.{type_view, types_view}
+use Rattle.midl_words.proofs.Turns.{goes_on_by, fails, ends, turn_shorter}
+use Rattle.midl_parse.proofs.LoopItems.{type_item}
 use Rattle.midl_parse.proofs.types.+types.Goals as goal
 
 pub more_types-returns-in_err-item : goal.more_types-returns-in_err-item

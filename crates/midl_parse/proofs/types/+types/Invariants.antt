@@ -1,11 +1,11 @@
 use Rattle.std.proofs.Common.{◌≡◌, ◌∷◌, [], ◌+◌, ◌*◌, length}
 use Rattle.grammar.specs.Readers.{many_at, after_front}
-use Rattle.midl_parse.specs.declared.kind.Kind.TheVariants.{Comma}
-use Rattle.midl_parse.specs.Kinds.{number_of}
-use Rattle.midl_parse.specs.Symbols.{kind_of}
-use Rattle.midl_parse.specs.Reading.{behind_at}
-use Rattle.midl_parse.specs.SourceReading.{types_at}
-use Rattle.midl_parse.specs.SourceViews.{types_view}
+use Rattle.midl_tree.specs.declared.kind.Kind.TheVariants.{Comma}
+use Rattle.midl_tree.specs.Kinds.{number_of}
+use Rattle.midl_tree.specs.Symbols.{kind_of}
+use Rattle.midl_words.specs.Reading.{behind_at}
+use Rattle.midl_parse.specs.ReadTypes.{types_at}
+use Rattle.midl_tree.specs.Views.{types_view}
 use Rattle.midl_parse.proofs.types.+types.Given as goal
 
 abbrev pub decreases-arguments_of : goal.decreases-arguments_of

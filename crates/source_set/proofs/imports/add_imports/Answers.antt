@@ -1,6 +1,6 @@
 use Rattle.std.proofs.Common.{sym}
 use Rattle.std.proofs.lemmas.Bool.{eqb-true}
-use Rattle.midl_parse.specs.SourceViews.{source_view}
+use Rattle.midl_tree.specs.Views.{source_view}
 use Rattle.source_set.specs.Imports.{behind_folder, texts_of, imported}
 use Rattle.source_set.proofs.NameLemmas.{full_all}
 use Rattle.source_set.proofs.ImportLemmas.{each_named}

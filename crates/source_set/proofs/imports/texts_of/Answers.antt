@@ -1,7 +1,7 @@
 use Rattle.std.proofs.Common.{List, ℕ, Vec, [], sym, ◌∙◌, ap}
 use Rattle.std.specs.List.{flat_map}
 use Rattle.std.specs.declared.alloc.Global.{Global}
-use Rattle.midl_parse.specs.Symbols.{Symbol}
+use Rattle.midl_tree.specs.Symbols.{Symbol}
 use Rattle.source_set.specs.Found.{once, with_names}
 use Rattle.source_set.specs.Imports.{text_of, texts_of}
 use Rattle.source_set.proofs.ImportLemmas.{texts_more, texts_done, flat_map-map}

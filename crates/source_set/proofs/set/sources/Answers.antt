@@ -1,7 +1,7 @@
 use Rattle.std.proofs.Common.{◌≡◌, ◌∙◌, ◌-◌, ◌<◌, ◌≤◌, List, ℕ, Some, Ok, Err, refl, sym, ap, subst, map, string_bytes, length, slice_get, arith}
 use Rattle.std.proofs.lemmas.List.{length-map}
 use Rattle.std.proofs.lemmas.Result.{err_from_is_err_and}
-use Rattle.midl_parse.specs.SourceViews.{source_view}
+use Rattle.midl_tree.specs.Views.{source_view}
 use Rattle.source_set.specs.Found.{with_names, first_names}
 use Rattle.source_set.specs.Imports.{imported}
 use Rattle.source_set.specs.Reads.{read_of}

@@ -1,11 +1,11 @@
 use Rattle.std.proofs.Common.{ap, sym, ◌∙◌, map}
 use Rattle.std.specs.List.{list_all}
 use Rattle.std.proofs.lemmas.List.Folds.{list_all-map}
-use Rattle.midl_parse.specs.declared.nodes.ItemNode.TheVariants.{rolls-Namespace, rolls-Declared}
-use Rattle.midl_parse.specs.declared.nodes.ItemNode.TheFolds.{fold-roll-ItemNode}
-use Rattle.midl_parse.specs.declared.nodes.ItemNode.TheOpen.{ItemNode-F}
-use Rattle.midl_parse.specs.SourceTrees.{ItemTree}
-use Rattle.midl_parse.specs.SourceViews.{attribute_view, item_step, item_view}
+use Rattle.midl_tree.specs.declared.nodes.ItemNode.TheVariants.{rolls-Namespace, rolls-Declared}
+use Rattle.midl_tree.specs.declared.nodes.ItemNode.TheFolds.{fold-roll-ItemNode}
+use Rattle.midl_tree.specs.declared.nodes.ItemNode.TheOpen.{ItemNode-F}
+use Rattle.midl_tree.specs.Trees.{ItemTree}
+use Rattle.midl_tree.specs.Views.{attribute_view, item_step, item_view}
 use Rattle.wr_tools.specs.Bare.{has_none, is_bare}
 use Rattle.wr_tools.proofs.BareLemmas.{bare_flat}
 use Rattle.wr_tools.proofs.bare.+bare.Goals as goal

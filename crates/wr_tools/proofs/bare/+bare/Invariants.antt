@@ -1,6 +1,6 @@
 use Rattle.std.proofs.Common.{◌≡◌, true, take}
 use Rattle.std.specs.List.{list_all}
-use Rattle.midl_parse.specs.SourceViews.{item_view}
+use Rattle.midl_tree.specs.Views.{item_view}
 use Rattle.wr_tools.specs.Bare.{is_bare}
 use Rattle.wr_tools.proofs.bare.+bare.Given as goal
 

@@ -1,6 +1,6 @@
 use Rattle.std.proofs.Common.{◌≡◌, true, take}
 use Rattle.std.specs.List.{list_all}
-use Rattle.midl_parse.specs.SourceViews.{source_view}
+use Rattle.midl_tree.specs.Views.{source_view}
 use Rattle.wr_tools.specs.Bare.{source_is_bare}
 use Rattle.wr_tools.proofs.bare.are_bare.Given as goal
 

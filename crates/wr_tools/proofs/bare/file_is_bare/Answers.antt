@@ -1,7 +1,7 @@
 use Rattle.std.proofs.Common.{ap, sym, ◌∙◌}
 use Rattle.std.specs.List.{list_all}
 use Rattle.std.proofs.lemmas.List.Folds.{list_all-map}
-use Rattle.midl_parse.specs.SourceViews.{item_view}
+use Rattle.midl_tree.specs.Views.{item_view}
 use Rattle.wr_tools.specs.Bare.{is_bare}
 use Rattle.wr_tools.proofs.bare.file_is_bare.Goals as goal
 

@@ -1,6 +1,6 @@
 use Rattle.std.proofs.Common.{◌≡◌, map, ap, subst, ◌∙◌, string_bytes, List, ◌++◌, codes}
 use Rattle.ranked.specs.First.{Clear}
-use Rattle.midl_parse.specs.declared.nodes.File.{File}
+use Rattle.midl_tree.specs.declared.nodes.File.{File}
 use Rattle.midl_names.specs.declared.placed.PlacedItem.{PlacedItem}
 use Rattle.midl_names.specs.Declares.{Declares}
 use Rattle.midl_names.specs.Names.{Names}

@@ -1,0 +1,5 @@
+pub mod Kinds
+pub mod Symbols
+pub mod Terminals
+pub mod Trees
+pub mod Views
