@@ -8,7 +8,9 @@ use Rattle.md_schema.specs.declared.sizes.Sizes.{Sizes}
 use Rattle.md_schema.specs.Written.{table_bytes}
 use Rattle.winmd_rows.specs.Entries.{Entries, with_item, numbers_of, texts_in, blobs_in, texts_in_row, blobs_in_row}
 use Rattle.winmd_rows.specs.Images.{numbered_tables, rows_at, entries_for, sizes_for, parts_with, text_heap, blob_heap}
-use Rattle.winmd_rows.specs.Spelled.{parts_of, padded, metadata}
+use Rattle.md_bytes.specs.Padding.{padded}
+use Rattle.winmd_image.specs.Parts.{parts_of}
+use Rattle.winmd_image.specs.Spelled.{image_bytes}
 use Rattle.winmd_rows.specs.Types.{name_part, space_part, bits_of_int}
 use Rattle.winmd_rows.specs.Written.{enum_rows, case_row, constant_rows}
 use Rattle.enum_image.specs.declared.heap.Framing.TheVariants.{Text, Blob}
@@ -72,26 +74,23 @@ blobs_heap full version cases heap h =
     let P : List (List ℕ) → Type 0 = λ items. IsHeap Blob (fold with_item ([] ∷ []) items) heap in
     subst P (sym (blobs_used full version cases)) h
 
-pub sizes_of_enum : (s : Sizes) (full : List ℕ) (version : ℕ) (cases : List Case) (texts blobs : List ℕ)
-    → s.long_texts ≡ nat_le 0x10000 (length texts) → s.long_guids ≡ false → s.long_blobs ≡ nat_le 0x10000 (length blobs) → s.rows ≡ counts_with (length cases)
-    → texts ≡ text_heap (enum_entries full version cases).texts → blobs ≡ blob_heap (enum_entries full version cases).blobs
+pub sizes_of_enum : (s : Sizes) (full : List ℕ) (version : ℕ) (cases : List Case) (texts blobs : ℕ)
+    → s.long_texts ≡ nat_le 0x10000 texts → s.long_guids ≡ false → s.long_blobs ≡ nat_le 0x10000 blobs → s.rows ≡ counts_with (length cases)
+    → texts ≡ length (text_heap (enum_entries full version cases).texts) → blobs ≡ length (blob_heap (enum_entries full version cases).blobs)
     → s ≡ sizes_for (enum_entries full version cases) (enum_rows full version cases)
 sizes_of_enum s full version cases texts blobs ea eb ec en et eu =
     sizes_are s (nat_le 0x10000 (length (text_heap (enum_entries full version cases).texts))) false (nat_le 0x10000 (length (blob_heap (enum_entries full version cases).blobs)))
     (map (rows_at (enum_rows full version cases)) numbered_tables)
-    (ea ∙ ap (λ (x : List ℕ). nat_le 0x10000 (length x)) et) eb (ec ∙ ap (λ (x : List ℕ). nat_le 0x10000 (length x)) eu) (en ∙ counts_are full version cases)
+    (ea ∙ ap (λ (x : ℕ). nat_le 0x10000 x) et) eb (ec ∙ ap (λ (x : ℕ). nat_le 0x10000 x) eu) (en ∙ counts_are full version cases)
 
-pub metadata_of_enum : (sizes : Sizes) (full : List ℕ) (version : ℕ) (cases : List Case) (tables texts blobs : List ℕ)
+-- the image of an enum, by its stream of tables and its heaps
+pub image_of_enum : (sizes : Sizes) (full : List ℕ) (version : ℕ) (cases : List Case) (texts blobs : List ℕ)
     → sizes ≡ sizes_for (enum_entries full version cases) (enum_rows full version cases)
-    → tables ≡ padded (table_bytes sizes (numbers_of (enum_entries full version cases) (enum_rows full version cases)))
-    → texts ≡ text_heap (enum_entries full version cases).texts → blobs ≡ blob_heap (enum_entries full version cases).blobs
-    → metadata (parts_of tables texts blobs) ≡ metadata (parts_with (enum_entries full version cases) (enum_rows full version cases))
-metadata_of_enum sizes full version cases tables texts blobs es et eu eb =
-    let entries : Entries = enum_entries full version cases in
-    ap (λ (x : List ℕ). metadata (parts_of x texts blobs)) (et ∙ ap (λ (s : Sizes). padded (table_bytes s (numbers_of entries (enum_rows full version cases)))) es)
-    ∙ ap (λ (x : List ℕ). metadata (parts_of (padded (table_bytes (sizes_for entries (enum_rows full version cases)) (numbers_of entries (enum_rows full version cases)))) x blobs)) eu
-    ∙ ap (λ (x : List ℕ). metadata (parts_of (padded (table_bytes (sizes_for entries (enum_rows full version cases)) (numbers_of entries (enum_rows full version cases)))) (text_heap entries.texts) x)) eb
+    → padded texts ≡ text_heap (enum_entries full version cases).texts → padded blobs ≡ blob_heap (enum_entries full version cases).blobs
+    → image_bytes (parts_of (padded (table_bytes sizes (numbers_of (enum_entries full version cases) (enum_rows full version cases)))) (padded texts) (padded blobs))
+    ≡ image_bytes (parts_with (enum_entries full version cases) (enum_rows full version cases))
+image_of_enum sizes full version cases texts blobs es eu eb =
+    λ i. image_bytes (parts_of (padded (table_bytes (es i) (numbers_of (enum_entries full version cases) (enum_rows full version cases)))) (eu i) (eb i))
 
--- the metadata of an enum
-abbrev pub metadata_for : List ℕ → ℕ → List Case → List ℕ
-metadata_for full version cases = metadata (parts_with (enum_entries full version cases) (enum_rows full version cases))
+abbrev pub image_for : List ℕ → ℕ → List Case → List ℕ
+image_for full version cases = image_bytes (parts_with (enum_entries full version cases) (enum_rows full version cases))

@@ -1,14 +1,11 @@
 //! The image of one enum, exact to the byte: `enum_image` writes what `winmd_rows` defines as the image of a declaration.
 #![tactic(auto)]
 
-mod headers;
 mod heap;
 mod image;
 mod layout;
 mod limits;
-mod metadata;
 mod names;
-mod numbers;
 mod rows;
 mod stream;
 mod tables;

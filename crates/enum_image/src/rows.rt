@@ -7,7 +7,7 @@ ghost use Rattle.md_schema.specs.Tables.{widths_of};
 ghost use Rattle.md_schema.specs.Widths.{width_of};
 ghost use Rattle.md_schema.specs.Written.{row_bytes};
 
-use crate::numbers::put_number;
+use md_bytes::put_number;
 use md_schema::{Column, Sizes, Table, columns, width};
 use wr_base::Memory;
 

@@ -12,17 +12,17 @@ ghost use Rattle.enum_image.specs.Parts.{counts_with};
 
 use crate::layout::Layout;
 use crate::names::parts;
-use crate::numbers::put_number;
 use crate::tables::{
     put_assembly, put_assembly_refs, put_attributes, put_constants, put_fields, put_member_refs,
     put_module, put_type_defs, put_type_refs,
 };
+use md_bytes::put_number;
 use md_schema::Sizes;
 use std::alloc::Global;
 use wr_base::{Case, Memory};
 
 /// The sizes of an image of an enum with so many cases, whose heaps have so many bytes.
-pub fn enum_sizes(texts: usize, blobs: usize, cases: u32) -> Sizes
+pub fn enum_sizes(texts: u64, blobs: u64, cases: u32) -> Sizes
     requires { cases ≤ 200 }
     ensures texts { result.long_texts ≡ nat_le 0x10000 texts }
     ensures guids { result.long_guids ≡ false }

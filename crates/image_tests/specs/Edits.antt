@@ -115,10 +115,10 @@ headers =
     ((0x83, 1 ∷ []) ∷ [], fault kinds.NotPe 0x80) ∷
     ((0x98, 0 ∷ 0 ∷ []) ∷ [], fault kinds.NotPe 0x98) ∷
     -- Addresses of 8 bytes: the directory is then looked for 16 bytes later, where the name of the section stands.
-    ((0x99, 2 ∷ []) ∷ [], fault kinds.BadRva 0x1A0) ∷
-    ((0x168, 0 ∷ 144 ∷ []) ∷ [], fault kinds.BadRva 0x1A0) ∷
-    ((0x86, 0 ∷ []) ∷ [], fault kinds.BadRva 0x178) ∷
-    ((0x86, 2 ∷ []) ∷ (0x188, 0 ∷ 0 ∷ []) ∷ [], fault kinds.BadRva 0x1C8) ∷
+    ((0x99, 2 ∷ []) ∷ [], fault kinds.BadRva 0x178) ∷
+    ((0x168, 0 ∷ 144 ∷ []) ∷ [], fault kinds.BadRva 0x168) ∷
+    ((0x86, 0 ∷ []) ∷ [], fault kinds.BadRva 0x168) ∷
+    ((0x86, 2 ∷ []) ∷ (0x188, 0 ∷ 0 ∷ []) ∷ [], fault kinds.BadRva 0x168) ∷
     -- The CLI header says that it has 71, 73, and 65,608 bytes; it is looked for 16 bytes later, where flags say 1.
     ((0x200, 71 ∷ []) ∷ [], fault kinds.NoCli 0x200) ∷
     ((0x200, 73 ∷ []) ∷ [], fault kinds.NoCli 0x200) ∷
@@ -126,12 +126,12 @@ headers =
     ((0x168, 16 ∷ []) ∷ [], fault kinds.NoCli 0x210) ∷
     -- It says so, and that the metadata stand where no section is.
     ((0x200, 71 ∷ []) ∷ (0x209, 144 ∷ []) ∷ [], fault kinds.NoCli 0x200) ∷
-    ((0x209, 144 ∷ []) ∷ [], fault kinds.BadRva 0x1A0) ∷
+    ((0x209, 144 ∷ []) ∷ [], fault kinds.BadRva 0x208) ∷
     -- The raw size of the section; the section's place in the file; the size of the metadata.
-    ((0x188, 71 ∷ 0 ∷ []) ∷ [], fault kinds.BadRva 0x1A0) ∷
-    ((0x188, 147 ∷ 2 ∷ []) ∷ [], fault kinds.BadRva 0x1A0) ∷
-    ((0x18D, 6 ∷ []) ∷ [], fault kinds.BadRva 0x1A0) ∷
-    ((0x20D, 4 ∷ []) ∷ [], fault kinds.BadRva 0x1A0) ∷
+    ((0x188, 71 ∷ 0 ∷ []) ∷ [], fault kinds.BadRva 0x168) ∷
+    ((0x188, 147 ∷ 2 ∷ []) ∷ [], fault kinds.BadRva 0x208) ∷
+    ((0x18D, 6 ∷ []) ∷ [], fault kinds.BadRva 0x168) ∷
+    ((0x20D, 4 ∷ []) ∷ [], fault kinds.BadRva 0x208) ∷
     ((0x248, 0 ∷ []) ∷ [], fault kinds.NoRoot 0x248) ∷
     ((0x255, 16 ∷ []) ∷ [], fault kinds.NoRoot 0x126E) ∷
     ((0x258, 88 ∷ []) ∷ [], fault kinds.NotWindowsRuntime 0x258) ∷

@@ -6,20 +6,20 @@ use md_schema::ImageKind;
 use std::test::Fail;
 
 /// Up to which length, from the one before on, an image is refused, and with which fault: the first that is looked for and whose bytes
-/// aren't there. From 0x190 on no section holds the CLI header, and from 0x248 on none the metadata; both faults stand behind the one section header.
-const FAULTS: [(usize, ImageKind, u64); 12] = [
+/// aren't there. From 0x170 on the one section header is cut. From 0x1A0 on no section holds the CLI header, and from 0x248 on none the metadata, whose
+/// addresses stand at 0x168 and 0x208.
+const FAULTS: [(usize, ImageKind, u64); 11] = [
     (0x02, ImageKind::NotPe, 0),
     (0x40, ImageKind::NotPe, 0x3C),
     (0x84, ImageKind::NotPe, 0x80),
     (0x88, ImageKind::NotPe, 0x86),
     (0x96, ImageKind::NotPe, 0x94),
     (0x9A, ImageKind::NotPe, 0x98),
-    (0x16C, ImageKind::NoCli, 0x168),
-    (0x188, ImageKind::NotPe, 0x184),
-    (0x18C, ImageKind::NotPe, 0x188),
-    (0x190, ImageKind::NotPe, 0x18C),
-    (0x248, ImageKind::BadRva, 0x1A0),
-    (shop::END, ImageKind::BadRva, 0x1A0),
+    (0x16C, ImageKind::NotPe, 0x168),
+    (0x170, ImageKind::NotPe, 0x16C),
+    (0x1A0, ImageKind::NotPe, 0x178),
+    (0x248, ImageKind::BadRva, 0x168),
+    (shop::END, ImageKind::BadRva, 0x208),
 ];
 
 #[test]

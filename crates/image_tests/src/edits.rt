@@ -167,10 +167,10 @@ static HEADERS: [Faulty; 32] = [
     (&[(0x83, &[1])], ImageKind::NotPe, 0x80),
     (&[(0x98, &[0, 0])], ImageKind::NotPe, 0x98),
     // Addresses of 8 bytes: the directory is then looked for 16 bytes later, where the name of the section stands.
-    (&[(0x99, &[2])], ImageKind::BadRva, 0x1A0),
-    (&[(0x168, &[0, 0x90])], ImageKind::BadRva, 0x1A0),
-    (&[(0x86, &[0])], ImageKind::BadRva, 0x178),
-    (&[(0x86, &[2]), (0x188, &[0, 0])], ImageKind::BadRva, 0x1C8),
+    (&[(0x99, &[2])], ImageKind::BadRva, 0x178),
+    (&[(0x168, &[0, 0x90])], ImageKind::BadRva, 0x168),
+    (&[(0x86, &[0])], ImageKind::BadRva, 0x168),
+    (&[(0x86, &[2]), (0x188, &[0, 0])], ImageKind::BadRva, 0x168),
     // The CLI header says that it has 71, 73, and 65,608 bytes; it is looked for 16 bytes later, where flags say 1.
     (&[(0x200, &[71])], ImageKind::NoCli, 0x200),
     (&[(0x200, &[73])], ImageKind::NoCli, 0x200),
@@ -178,12 +178,12 @@ static HEADERS: [Faulty; 32] = [
     (&[(0x168, &[0x10])], ImageKind::NoCli, 0x210),
     // It says so, and that the metadata stand where no section is.
     (&[(0x200, &[71]), (0x209, &[0x90])], ImageKind::NoCli, 0x200),
-    (&[(0x209, &[0x90])], ImageKind::BadRva, 0x1A0),
+    (&[(0x209, &[0x90])], ImageKind::BadRva, 0x208),
     // The raw size of the section; the section's place in the file; the size of the metadata.
-    (&[(0x188, &[0x47, 0])], ImageKind::BadRva, 0x1A0),
-    (&[(0x188, &[0x93, 0x02])], ImageKind::BadRva, 0x1A0),
-    (&[(0x18D, &[0x06])], ImageKind::BadRva, 0x1A0),
-    (&[(0x20D, &[0x04])], ImageKind::BadRva, 0x1A0),
+    (&[(0x188, &[0x47, 0])], ImageKind::BadRva, 0x168),
+    (&[(0x188, &[0x93, 0x02])], ImageKind::BadRva, 0x208),
+    (&[(0x18D, &[0x06])], ImageKind::BadRva, 0x168),
+    (&[(0x20D, &[0x04])], ImageKind::BadRva, 0x208),
     (&[(0x248, &[0])], ImageKind::NoRoot, 0x248),
     (&[(0x255, &[0x10])], ImageKind::NoRoot, 0x126E),
     (&[(0x258, b"X")], ImageKind::NotWindowsRuntime, 0x258),

@@ -2,6 +2,7 @@
 
 ghost use Rattle.std.specs.Prelude.{◌≡◌, ◌+◌, ◌-◌, ◌*◌, ◌^◌, ◌<◌, ◌≤◌, length};
 ghost use Rattle.std.specs.Result.{result_ok};
+ghost use Rattle.md_schema.specs.Codes.{target_of, code_of};
 
 use crate::choice::{choice_at, tag_of};
 use crate::table::Table;
@@ -22,17 +23,11 @@ pub struct Coded<const TAGS: usize> {
 }
 
 impl<const TAGS: usize> Coded<TAGS> {
-    ghost use Rattle.md_schema.specs.Codes.{target_of, code_of};
-
     /// The table and the row that a number names. Refused where its low bits are the tag of no table.
     pub fn decode(&self, raw: u32) -> Result<(Table, u32), BadTag>
         ensures { result_ok result ≡ target_of self.now.bits self.now.tables raw }
     {
-        let tags = tag_count(self.bits);
-        match choice_at(&self.tables, raw % tags) {
-            Some(table) => Ok((table, raw / tags)),
-            None => Err(BadTag),
-        }
+        decode_among(self.bits, &self.tables, raw)
     }
 
     /// The number that names a row of a table. `None` where the coded index can't name this table.
@@ -40,10 +35,32 @@ impl<const TAGS: usize> Coded<TAGS> {
         requires { row < 2 ^ (32 - self.now.bits) }
         ensures { result ≡ code_of self.now.bits self.now.tables table row }
     {
-        match tag_of(&self.tables, table) {
-            Some(tag) => Some(joined(self.bits, row, tag as u32)),
-            None => None,
-        }
+        encode_among(self.bits, &self.tables, table, row)
+    }
+}
+
+/// The table and the row that a number names, for a tag of so many bits among these tables.
+pub fn decode_among(bits: u32, tables: &[Option<Table>], raw: u32) -> Result<(Table, u32), BadTag>
+    requires { bits < 16 }
+    ensures { result_ok result ≡ target_of bits tables.now raw }
+{
+    let tags = tag_count(bits);
+    match choice_at(tables, raw % tags) {
+        Some(table) => Ok((table, raw / tags)),
+        None => Err(BadTag),
+    }
+}
+
+/// The number that names a row of a table, for a tag of so many bits among these tables.
+pub fn encode_among(bits: u32, tables: &[Option<Table>], table: Table, row: u32) -> Option<u32>
+    requires short { bits < 16 }
+    requires fits { length tables.now ≤ 2 ^ bits }
+    requires row { row < 2 ^ (32 - bits) }
+    ensures { result ≡ code_of bits tables.now table row }
+{
+    match tag_of(tables, table) {
+        Some(tag) => Some(joined(bits, row, tag as u32)),
+        None => None,
     }
 }
 

@@ -1,11 +1,11 @@
 //! The coded indices: which tables each may name.
 
-ghost use Rattle.std.specs.Prelude.{◌≡◌};
+ghost use Rattle.std.specs.Prelude.{◌≡◌, ◌≤◌, ◌^◌, length};
 ghost use Rattle.std.specs.Result.{result_ok};
-ghost use Rattle.md_schema.specs.Codes.{target_of};
+ghost use Rattle.md_schema.specs.Codes.{target_of, code_of};
 ghost use Rattle.md_schema.specs.Schema.{choices_of, bits_of};
 
-use crate::coded::{BadTag, Coded};
+use crate::coded::{BadTag, Coded, decode_among, encode_among};
 use crate::column::CodedIndex;
 use crate::table::Table;
 
@@ -177,7 +177,8 @@ pub const TYPE_OR_METHOD_DEF: Coded<2> = Coded {
 
 /// The tables that a coded index may name, by tag; a tag without a table has `None`.
 pub fn choices(coded: CodedIndex) -> &'static [Option<Table>]
-    ensures { result.now ≡ choices_of coded }
+    ensures value { result.now ≡ choices_of coded }
+    ensures fits { length result.now ≤ 2 ^ bits_of coded }
 {
     match coded {
         CodedIndex::TypeDefOrRef => &TYPE_DEF_OR_REF_TABLES,
@@ -198,7 +199,8 @@ pub fn choices(coded: CodedIndex) -> &'static [Option<Table>]
 
 /// How many bits the tag of a coded index has.
 pub fn bits(coded: CodedIndex) -> u32
-    ensures { result ≡ bits_of coded }
+    ensures value { result ≡ bits_of coded }
+    ensures small { result ≤ 5 }
 {
     match coded {
         CodedIndex::TypeDefOrRef => 2,
@@ -221,19 +223,13 @@ pub fn bits(coded: CodedIndex) -> u32
 pub fn decode(coded: CodedIndex, raw: u32) -> Result<(Table, u32), BadTag>
     ensures { result_ok result ≡ target_of (bits_of coded) (choices_of coded) raw }
 {
-    match coded {
-        CodedIndex::TypeDefOrRef => TYPE_DEF_OR_REF.decode(raw),
-        CodedIndex::HasConstant => HAS_CONSTANT.decode(raw),
-        CodedIndex::HasCustomAttribute => HAS_CUSTOM_ATTRIBUTE.decode(raw),
-        CodedIndex::HasFieldMarshal => HAS_FIELD_MARSHAL.decode(raw),
-        CodedIndex::HasDeclSecurity => HAS_DECL_SECURITY.decode(raw),
-        CodedIndex::MemberRefParent => MEMBER_REF_PARENT.decode(raw),
-        CodedIndex::HasSemantics => HAS_SEMANTICS.decode(raw),
-        CodedIndex::MethodDefOrRef => METHOD_DEF_OR_REF.decode(raw),
-        CodedIndex::MemberForwarded => MEMBER_FORWARDED.decode(raw),
-        CodedIndex::Implementation => IMPLEMENTATION.decode(raw),
-        CodedIndex::CustomAttributeType => CUSTOM_ATTRIBUTE_TYPE.decode(raw),
-        CodedIndex::ResolutionScope => RESOLUTION_SCOPE.decode(raw),
-        CodedIndex::TypeOrMethodDef => TYPE_OR_METHOD_DEF.decode(raw),
-    }
+    decode_among(bits(coded), choices(coded), raw)
+}
+
+/// The number that names a row of a table. `None` where the coded index can't name this table.
+pub fn encode(coded: CodedIndex, table: Table, row: u32) -> Option<u32>
+    requires { row ≤ 2 ^ 24 }
+    ensures { result ≡ code_of (bits_of coded) (choices_of coded) table row }
+{
+    encode_among(bits(coded), choices(coded), table, row)
 }

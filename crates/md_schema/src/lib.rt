@@ -19,7 +19,7 @@ pub use indices::{
     CUSTOM_ATTRIBUTE_TYPE, HAS_CONSTANT, HAS_CUSTOM_ATTRIBUTE, HAS_DECL_SECURITY,
     HAS_FIELD_MARSHAL, HAS_SEMANTICS, IMPLEMENTATION, MEMBER_FORWARDED, MEMBER_REF_PARENT,
     METHOD_DEF_OR_REF, RESOLUTION_SCOPE, TYPE_DEF_OR_REF, TYPE_OR_METHOD_DEF, bits, choices,
-    decode,
+    decode, encode,
 };
 pub use laws::{decoded_is_encoded, encoded_is_decoded, written_is_read};
 pub use layout::{

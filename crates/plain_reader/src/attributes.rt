@@ -1,11 +1,11 @@
 //! The attributes of a type (ECMA-335 II.22.10).
 
-use crate::bytes::{begins, number_at};
 use crate::cells::{Tables, Target};
 use crate::lists::{METHODS, begin_of};
 use crate::names::{NO_NAME, TypeName, name_at};
 use crate::unread::fault;
 use md_schema::{ImageFault, ImageKind, Table};
+use winmd_image::{begins, number_at};
 
 /// The type that has a method, by its row: the last whose methods begin at this one or before it, since the lists follow each other.
 /// None is row 0.

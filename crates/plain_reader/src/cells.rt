@@ -3,11 +3,10 @@
 ghost use Rattle.std.specs.Prelude.{◌≡◌, ◌<◌, ◌≤◌};
 ghost use Rattle.md_schema.specs.Tables as tables_as;
 
-use crate::bytes::{number_at, part};
 use crate::heaps::{blob_at, text_at};
-use crate::streams::{Range, Streams};
 use crate::unread::fault;
 use md_schema::{Column, ImageFault, ImageKind, Sizes, TABLES, Table, columns, decode, width};
+use winmd_image::{Streams, number_at};
 
 /// How many bytes the header of the stream has, up to the row counts.
 const HEADER_SIZE: u64 = 24;
@@ -143,16 +142,11 @@ fn entry(list: &[u64; 45], table: Table) -> u64 {
     list[table.number() as usize]
 }
 
-/// The bytes of a stream.
-fn bytes_in(image: &[u8], range: Range) -> &[u8] {
-    part(image, range.offset, range.size)
-}
-
 impl<'a> Tables<'a> {
     /// The tables of an image with these streams. A header that is cut, a table that is none, and rows past the stream, are faults.
-    pub fn new(image: &'a [u8], streams: &Streams) -> Result<Tables<'a>, ImageFault> {
+    pub fn new(streams: &Streams<'a>) -> Result<Tables<'a>, ImageFault> {
         let at = streams.tables.offset;
-        let stream = bytes_in(image, streams.tables);
+        let stream = streams.tables.bytes;
         let end = at.saturating_add(stream.len() as u64);
         if (stream.len() as u64) < HEADER_SIZE {
             return Err(fault(ImageKind::ShortTable, end));
@@ -181,8 +175,8 @@ impl<'a> Tables<'a> {
         Ok(Tables {
             at,
             stream,
-            texts: bytes_in(image, streams.texts),
-            blobs: bytes_in(image, streams.blobs),
+            texts: streams.texts.bytes,
+            blobs: streams.blobs.bytes,
             sizes,
             starts: starts(&sizes, rows),
             row_sizes: row_sizes(&sizes),

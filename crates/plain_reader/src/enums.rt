@@ -5,7 +5,6 @@ ghost use Rattle.plain_reader.specs.Enums.{IsEnum};
 ghost use Rattle.winmd_rows.specs.Types.{int_of_bits};
 
 use crate::attributes::version_of;
-use crate::bytes::number_at;
 use crate::cells::{Tables, has_bit};
 use crate::limits;
 use crate::lists::{FIELDS, begin_of, end_of};
@@ -13,6 +12,7 @@ use crate::names::TypeName;
 use crate::signatures::field_type;
 use crate::unread::{Unread, fault};
 use md_schema::{ImageFault, ImageKind, Table};
+use winmd_image::number_at;
 use std::alloc::Global;
 use wr_base::{Case, Cases, Declaration, FullName, Name, tests_identifier};
 

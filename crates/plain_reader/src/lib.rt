@@ -3,7 +3,6 @@
 #![tactic(auto)]
 
 mod attributes;
-mod bytes;
 mod cells;
 mod enums;
 mod heaps;
@@ -12,7 +11,6 @@ mod lists;
 mod names;
 mod set;
 mod signatures;
-mod streams;
 mod types;
 mod unread;
 

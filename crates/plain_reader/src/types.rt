@@ -8,10 +8,10 @@ use crate::enums::enum_of;
 use crate::lists::check_lists;
 use crate::names::{NO_NAME, TypeName, name_at, name_of};
 use crate::set::check_set;
-use crate::streams::streams_of;
 use crate::unread::{Unread, fault};
 use md_schema::{ImageFault, ImageKind, Table};
 use std::alloc::Global;
+use winmd_image::unwrap;
 use wr_base::Declaration;
 
 /// No row of GenericParam has a type as its owner (ECMA-335 II.22.20).
@@ -106,8 +106,8 @@ fn type_of(alloc: Global, tables: &Tables<'_>, row: u32) -> Result<Option<Declar
 pub fn types_of(alloc: Global, image: &[u8]) -> Result<Vec<Declaration>, Unread>
     ensures enums { IfOk result (λ types. All IsEnum types.items) }
 {
-    let streams = streams_of(image)?;
-    let tables = Tables::new(image, &streams)?;
+    let streams = unwrap(image)?;
+    let tables = Tables::new(&streams)?;
     check_lists(&tables)?;
     check_generics(&tables)?;
     let mut types = Vec::new(alloc);

@@ -174,3 +174,13 @@ taken_apart p small =
       blobs = record { offset = 584 + (116 + length p.tables + length p.texts + length p.users + length p.guids); bytes = part_is p p.blobs (116 + length p.tables + length p.texts + length p.users + length p.guids) b.blobs i };
     } in
     ap (λ (r : Result Streams ImageFault). r >>= λ streams. Ok (slices_in (image_bytes p) streams)) (streams_found p small) ∙ ap (λ (s : Slices). Ok s) same
+
+-- the bytes of three of them
+pub tables_in : (p : Parts) → part_at (image_bytes p) (584 + 116) (length p.tables) ≡ p.tables
+tables_in p = part_is p p.tables 116 (bodies p).tables
+
+pub texts_in : (p : Parts) → part_at (image_bytes p) (584 + (116 + length p.tables)) (length p.texts) ≡ p.texts
+texts_in p = part_is p p.texts (116 + length p.tables) (bodies p).texts
+
+pub blobs_in : (p : Parts) → part_at (image_bytes p) (584 + (116 + length p.tables + length p.texts + length p.users + length p.guids)) (length p.blobs) ≡ p.blobs
+blobs_in p = part_is p p.blobs (116 + length p.tables + length p.texts + length p.users + length p.guids) (bodies p).blobs

@@ -21,6 +21,10 @@ parts_of tables texts blobs = record { tables = tables; texts = texts; users = z
 abbrev pub padded_parts : Parts → Parts
 padded_parts p = record { tables = padded p.tables; texts = padded p.texts; users = padded p.users; guids = padded p.guids; blobs = padded p.blobs }
 
+-- the streams of an image that states types, with zeros behind them
+abbrev pub padded_types : List ℕ → List ℕ → List ℕ → Parts
+padded_types tables texts blobs = parts_of (padded tables) (padded texts) (padded blobs)
+
 -- how many bytes they have
 abbrev pub size_of : Parts → ℕ
 size_of p = length p.tables + length p.texts + length p.users + length p.guids + length p.blobs

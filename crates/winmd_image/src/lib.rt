@@ -14,6 +14,6 @@ mod slices;
 mod stream_headers;
 
 pub use fields::{begins, field, number_at, part};
-pub use image::wrap;
+pub use image::{has_room, padded_size, wrap, wrap_types};
 pub use laws::wrapped_is_unwrapped;
 pub use slices::{Streams, unwrap};

@@ -20,7 +20,11 @@ use Rattle.md_heaps.specs.Texts.{text_bytes}
 use Rattle.winmd_rows.specs.Entries.{Entries, entries_of, index_in, texts_in, blobs_in, texts_in_row, blobs_in_row, numbers_in_row, numbers_of}
 use Rattle.winmd_rows.specs.Fits.{CaseFits}
 use Rattle.winmd_rows.specs.Images.{entries_for, sizes_for, parts_with, text_heap, blob_heap}
-use Rattle.winmd_rows.specs.Spelled.{Parts, metadata, metadata_head, root_head, stream_heads, padded, zeros, up}
+use Rattle.md_bytes.specs.Padding.{padded, zeros, up}
+use Rattle.md_bytes.proofs.ZeroLemmas.{length-zeros}
+use Rattle.winmd_image.specs.Parts.{Parts}
+use Rattle.winmd_image.specs.Spelled.{metadata}
+use Rattle.winmd_image.proofs.Headers.{length-metadata}
 use Rattle.winmd_rows.specs.Types.{has_dot, name_part, space_part, bits_of_int}
 use Rattle.winmd_rows.specs.Written.{enum_rows, case_row, constant_rows}
 use Rattle.winmd_laws.proofs.Kept.{weight, heap_low, weight_append}
@@ -88,11 +92,6 @@ blobs_low full version cs few =
     let first = weight_append blob_bytes (flat_map blobs_in_row (map case_row cs)) ((0x20 ∷ 1 ∷ 1 ∷ 9 ∷ []) ∷ (flat_map blobs_in_row (constant_rows 2 cs) ++ behind)) in
     let second = weight_append blob_bytes (flat_map blobs_in_row (constant_rows 2 cs)) behind in
     omega (arith, heap, signatures_low cs, constants_low 2 cs, first, second)
-
-length-zeros : (n : ℕ) → length (zeros n) ≡ n
-unfolding zeros
-length-zeros zero = refl
-length-zeros (suc n) = ap suc (length-zeros n)
 
 pub padded_low : (bytes : List ℕ) → length (padded bytes) ≤ length bytes + 3
 padded_low bytes = omega (arith, length-append bytes (zeros (up (length bytes) 4 - length bytes)), length-zeros (up (length bytes) 4 - length bytes))
@@ -215,20 +214,6 @@ stream_low full version cs few s =
     let size : total (map (table_size (sizes_of (table_bytes sizes rows ++ []))) all_tables) ≡ total (map (table_size sizes) all_tables) = ap (λ (x : Sizes). total (map (table_size x) all_tables)) begun.sizes_are in
     omega (arith, begun.from_is, end, counts, size, tables_low full version cs few s)
 
-length-head : (p : Parts) → length (metadata_head p) ≡ 116
-unfolding root_head stream_heads zeros
-length-head p = refl
-
-metadata_length : (p : Parts) → length (metadata p) ≡ 136 + length p.tables + length p.texts + length p.blobs
-unfolding metadata
-metadata_length p =
-    let a1 : List ℕ = metadata_head p ++ p.tables in
-    let a2 : List ℕ = a1 ++ p.texts in
-    let a3 : List ℕ = a2 ++ zeros 4 in
-    let a4 : List ℕ = a3 ++ zeros 16 in
-    let whole : metadata p ≡ a4 ++ p.blobs = refl in
-    omega (arith, ap length whole, length-head p, length-append (metadata_head p) p.tables, length-append a1 p.texts, length-append a2 (zeros 4), length-append a3 (zeros 16), length-append a4 p.blobs, length-zeros 4, length-zeros 16)
-
 pub image_short : (full : List ℕ) (version : ℕ) (cs : List Case) → length full ≤ 511 → length cs ≤ 200 → AllByRecursion CaseFits cs
     → 72 + length (metadata (parts_with (entries_for (enum_rows full version cs)) (enum_rows full version cs))) < 2 ^ 31
 image_short full version cs short few fits =
@@ -237,7 +222,9 @@ image_short full version cs short few fits =
     let s = small full version cs short few fits in
     omega (
       arith,
-      metadata_length (parts_with entries (enum_rows full version cs)),
+      length-zeros 4,
+      length-zeros 16,
+      length-metadata (parts_with entries (enum_rows full version cs)),
       stream_low full version cs few s,
       padded_low stream,
       padded_low (flat_map text_bytes entries.texts),

@@ -15,8 +15,7 @@ use Rattle.winmd_rows.specs.Entries.{index_in}
 use Rattle.md_heaps.specs.Reading.{text_at, blob_at}
 use Rattle.md_heaps.proofs.ReadLaws.{text_reads, blob_here_reads}
 use Rattle.winmd_rows.specs.Images.{text_heap, blob_heap}
-use Rattle.winmd_rows.specs.Spelled.{zeros, up}
-use Rattle.winmd_laws.proofs.Headers.{stands_length}
+use Rattle.md_bytes.specs.Padding.{zeros, up}
 use Rattle.winmd_laws.proofs.Paths.{ArePlain, either}
 
 -- an item among entries stands at its index

@@ -1,6 +1,3 @@
-pub mod Headers
-pub mod Roots
-pub mod Found
 pub mod Cases
 pub mod Enums
 pub mod Paths

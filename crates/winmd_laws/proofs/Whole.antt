@@ -29,10 +29,14 @@ use Rattle.wr_base.specs.declared.declaration.Case.{Case}
 use Rattle.wr_base.specs.declared.declaration.Declaration.{Declaration}
 use Rattle.wr_base.specs.declared.declaration.Declaration.TheVariants.{Enum, Struct, Delegate, Interface, Class}
 use Rattle.winmd_rows.specs.Entries.{Entries, texts_in, blobs_in, numbers_of}
-use Rattle.winmd_rows.specs.Faults.{Fault, ◌>>=◌}
+use Rattle.winmd_rows.specs.Faults.{Fault, in_image, ◌>>=◌}
 use Rattle.winmd_rows.specs.Fits.{Fits, EnumFits, CaseFits}
 use Rattle.winmd_rows.specs.Images.{parts_with, sizes_for, numbered_tables, rows_at, text_heap, blob_heap}
-use Rattle.winmd_rows.specs.Spelled.{Parts, image_bytes, padded, zeros, up}
+use Rattle.md_bytes.specs.Padding.{padded, zeros, up}
+use Rattle.winmd_image.specs.Parts.{Parts, Small}
+use Rattle.winmd_image.specs.Spelled.{metadata, image_bytes}
+use Rattle.winmd_image.proofs.Headers.{length-metadata}
+use Rattle.winmd_image.proofs.FoundLaws.{streams_found, streams_in, tables_in, texts_in as texts_part, blobs_in as blobs_part}
 use Rattle.winmd_rows.specs.Types.{has_dot, name_part, space_part}
 use Rattle.winmd_rows.specs.Values.{Value, Heaps, Rows, placed, follow, followed, followed_row, followed_rows, stated, stated_row}
 use Rattle.winmd_rows.specs.Written.{rows_of, enum_rows, case_row, constant_rows}
@@ -40,7 +44,6 @@ use Rattle.winmd_laws.specs.Read.{is_named, types_of}
 use Rattle.winmd_laws.specs.Meaning.{TypesOf, types_in, moved, offsets, heaps_of, AreEntries, Strict}
 use Rattle.winmd_laws.proofs.Enums.{enum_again}
 use Rattle.winmd_laws.proofs.Follows.{Readable, rows_follow}
-use Rattle.winmd_laws.proofs.Found.{streams_found, streams_in, tables_in, texts_in as texts_part, blobs_in as blobs_part}
 use Rattle.winmd_laws.proofs.Items.{text_read, blob_read}
 use Rattle.winmd_laws.proofs.Paths.{either, path_plain, path_dot, name_plain, space_plain}
 
@@ -202,13 +205,16 @@ declared_states at entries (Delegate _ _ _ _) h texts blobs fit = absurd h
 declared_states at entries (Interface _ _ _ _ _ _) h texts blobs fit = absurd h
 declared_states at entries (Class _ _ _ _ _ _ _ _) h texts blobs fit = absurd h
 
+small_by : (p : Parts) → 72 + length (metadata p) < 2 ^ 31 → Small p
+small_by p short = omega (arith, short, length-metadata p)
+
 -- An image that is strict states what was declared, and nothing else.
 pub strict_states : (bytes : List ℕ) (s : Strict bytes) → TypesOf bytes ≡ Ok (s.declared ∷ [])
 strict_states bytes s =
     let p : Parts = parts_with s.entries (rows_of s.declared) in
     let img : List ℕ = image_bytes p in
     let found : TypesOf img ≡ types_in (584 + 116) (part_at img (584 + 116) (length p.tables)) (heaps_of img (streams_in p)) =
-    ap (λ (r : Result Streams Fault). r >>= λ x. types_in x.tables.offset (part_at img x.tables.offset x.tables.size) (heaps_of img x)) (streams_found p s.short) in
+    ap (λ (r : Result Streams ImageFault). in_image r >>= λ x. types_in x.tables.offset (part_at img x.tables.offset x.tables.size) (heaps_of img x)) (streams_found p (small_by p s.short)) in
     let t1 = ap (λ (x : List ℕ). types_in (584 + 116) x (heaps_of img (streams_in p))) (tables_in p) in
     let t2 = ap (λ (x : List ℕ). types_in (584 + 116) p.tables (record { texts = x; blobs = (heaps_of img (streams_in p)).blobs })) (texts_part p) in
     let t3 = ap (λ (x : List ℕ). types_in (584 + 116) p.tables (record { texts = p.texts; blobs = x })) (blobs_part p) in

@@ -9,11 +9,11 @@ use Rattle.md_schema.specs.Written.{Fit}
 use Rattle.md_tables.specs.Faults.{fault_of}
 use Rattle.wr_base.specs.declared.declaration.Declaration.{Declaration}
 use Rattle.winmd_rows.specs.Entries.{Entries, texts_in, blobs_in, numbers_of}
-use Rattle.winmd_rows.specs.Faults.{Fault, fault, ◌>>=◌}
+use Rattle.winmd_image.specs.Root.{streams_of}
+use Rattle.winmd_image.specs.Spelled.{image_bytes, metadata}
+use Rattle.winmd_rows.specs.Faults.{Fault, fault, in_image, ◌>>=◌}
 use Rattle.winmd_rows.specs.Fits.{Fits}
 use Rattle.winmd_rows.specs.Images.{parts_with, sizes_for}
-use Rattle.winmd_rows.specs.Spelled.{image_bytes, metadata}
-use Rattle.winmd_rows.specs.Streams.{streams_of}
 use Rattle.winmd_rows.specs.Values.{Heaps, Offsets, followed}
 use Rattle.winmd_rows.specs.Written.{rows_of}
 use Rattle.winmd_laws.specs.Read.{types_of}
@@ -39,7 +39,7 @@ types_in at tables heaps = moved at (fault_of tables) >>= λ whole. types_of (of
 
 -- The declarations that an image states.
 abbrev pub TypesOf : List ℕ → Result (List Declaration) Fault
-TypesOf bytes = streams_of bytes >>= λ s. types_in s.tables.offset (bytes_in bytes s.tables) (heaps_of bytes s)
+TypesOf bytes = in_image (streams_of bytes) >>= λ s. types_in s.tables.offset (bytes_in bytes s.tables) (heaps_of bytes s)
 
 -- ---- the one way of writing, up to the order of the heaps' entries
 

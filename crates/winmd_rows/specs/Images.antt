@@ -10,7 +10,9 @@ use Rattle.md_heaps.specs.Texts.{text_bytes}
 use Rattle.winmd_rows.specs.Values.{Value}
 use Rattle.winmd_rows.specs.Entries.{Entries, entries_of, texts_in, blobs_in, numbers_of}
 use Rattle.md_schema.specs.Written.{table_bytes}
-use Rattle.winmd_rows.specs.Spelled.{Parts, parts_of, image_bytes, padded}
+use Rattle.md_bytes.specs.Padding.{padded}
+use Rattle.winmd_image.specs.Parts.{Parts, parts_of}
+use Rattle.winmd_image.specs.Spelled.{image_bytes}
 use Rattle.winmd_rows.specs.Written.{rows_of}
 
 -- the table of each number from 0 to 0x2C; some numbers have none

@@ -1,9 +1,7 @@
 pub mod Faults
 pub mod Values
 pub mod Types
-pub mod Spelled
 pub mod Entries
 pub mod Written
 pub mod Fits
 pub mod Images
-pub mod Streams

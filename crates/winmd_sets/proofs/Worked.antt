@@ -1,7 +1,8 @@
 -- The definitions at worked examples, by computing.
-use Rattle.winmd_rows.specs.Spelled.{zeros, dos_header, file_header, optional_header, section_header, cli_header, root_head, stream_heads, metadata}
+use Rattle.md_bytes.specs.Padding.{zeros}
+use Rattle.winmd_image.specs.Spelled.{dos_header, file_header, standard_fields, windows_fields, directories, section_header, cli_header, root_head, stream_heads, metadata}
 use Rattle.winmd_rows.specs.Images.{parts_with, entries_for}
-use Rattle.winmd_rows.specs.Spelled.{image_bytes}
+use Rattle.winmd_image.specs.Spelled.{image_bytes}
 use Rattle.winmd_rows.specs.Values.{stated}
 use Rattle.std.proofs.Common.{◌≡◌, Ok, refl}
 use Rattle.md_schema.specs.Written.{table_head}
@@ -14,11 +15,11 @@ use Rattle.winmd_sets.specs.Shop.{shop, shop_image}
 use Rattle.winmd_sets.specs.Mix.{mix, mix_image}
 
 pub shop_written : image_bytes (parts_with (entries_for (rows_of shop)) (rows_of shop)) ≡ shop_image
-unfolding decimal_of zeros dos_header file_header optional_header section_header cli_header root_head stream_heads metadata table_head shop_image
+unfolding decimal_of zeros dos_header file_header standard_fields windows_fields directories section_header cli_header root_head stream_heads metadata table_head shop_image
 shop_written = refl
 
 pub mix_written : image_bytes (parts_with (entries_for (rows_of mix)) (rows_of mix)) ≡ mix_image
-unfolding decimal_of zeros dos_header file_header optional_header section_header cli_header root_head stream_heads metadata table_head mix_image
+unfolding decimal_of zeros dos_header file_header standard_fields windows_fields directories section_header cli_header root_head stream_heads metadata table_head mix_image
 mix_written = refl
 
 pub shop_read : reading (stated (rows_of shop)) ≡ Ok shop

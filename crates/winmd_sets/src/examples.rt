@@ -5,7 +5,7 @@ ghost use Rattle.md_schema.specs.declared.table.Table.TheVariants as tables;
 ghost use Rattle.md_schema.specs.declared.faults.ImageKind.TheVariants as kinds;
 ghost use Rattle.winmd_rows.specs.Faults.{fault};
 ghost use Rattle.winmd_rows.specs.Images.{parts_with, entries_for};
-ghost use Rattle.winmd_rows.specs.Spelled.{image_bytes};
+ghost use Rattle.winmd_image.specs.Spelled.{image_bytes};
 ghost use Rattle.winmd_rows.specs.Values.{Value, stated, stated_row};
 ghost use Rattle.wr_base.specs.Trees.{enum, struct};
 ghost use Rattle.winmd_sets.specs.Rows.{rows_of};

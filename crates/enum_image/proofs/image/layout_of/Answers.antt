@@ -1,5 +1,5 @@
-use Rattle.std.proofs.Common.{◌≤◌, ◌∙◌, length, ap, arith}
-use Rattle.winmd_rows.specs.Spelled.{padded}
+use Rattle.std.proofs.Common.{◌≤◌, ◌∙◌, ℕ, List, length, ap, arith}
+use Rattle.md_bytes.specs.Padding.{padded}
 use Rattle.winmd_rows.specs.Types.{name_part, space_part}
 use Rattle.enum_image.proofs.NameLemmas.{name_short, space_short}
 use Rattle.enum_image.proofs.UseLemmas.{texts_heap, blobs_heap, sizes_of_enum}
@@ -25,7 +25,7 @@ pub returns-clause-sizes : goal.returns-clause-sizes
 returns-clause-sizes c =
     let texts = texts_heap c.args.full.now c.args.version c.args.cases.now _ _ c.in_ok-texts.texts c.parts.ensures.space c.parts.ensures.name c.in_ok-texts.ensures in
     let blobs = blobs_heap c.args.full.now c.args.version c.args.cases.now c.in_ok-blobs.blobs c.in_ok-blobs.ensures in
-    sizes_of_enum c.enum_sizes-sizes.result c.args.full.now c.args.version c.args.cases.now c.as_slice.result.now c.as_slice-2.result.now
+    sizes_of_enum c.enum_sizes-sizes.result c.args.full.now c.args.version c.args.cases.now c.padded_size.result c.padded_size-2.result
     c.enum_sizes-sizes.ensures.texts c.enum_sizes-sizes.ensures.guids c.enum_sizes-sizes.ensures.blobs c.enum_sizes-sizes.ensures.rows
-    (c.as_slice.ensures.value ∙ c.in_ok-padded_texts.ensures ∙ ap padded (c.deref.ensures.value ∙ texts.spelled))
-    (c.as_slice-2.ensures.value ∙ c.in_ok-padded_blobs.ensures ∙ ap padded (c.deref-2.ensures.value ∙ blobs.spelled))
+    (c.padded_size.ensures ∙ ap (λ (x : List ℕ). length (padded x)) (c.deref.ensures.value ∙ texts.spelled))
+    (c.padded_size-2.ensures ∙ ap (λ (x : List ℕ). length (padded x)) (c.deref-2.ensures.value ∙ blobs.spelled))

@@ -1,8 +1,0 @@
--- Each call adds its part at the end.
-use Rattle.std.proofs.Common.{append_assoc}
-use Rattle.winmd_rows.specs.Spelled.{dos_header}
-use Rattle.enum_image.proofs.headers.put_dos_header.Goals as goal
-
-pub returns : goal.returns
-unfolding dos_header
-returns c = rw (c.in_ok-put_zeros-2.ensures, c.in_ok-put_number.ensures, c.in_ok-put_zeros.ensures, c.in_ok-extend_from_slice.ensures.items) (simp append_assoc)
