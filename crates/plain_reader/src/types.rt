@@ -101,6 +101,22 @@ fn type_of(alloc: Global, tables: &Tables<'_>, row: u32) -> Result<Option<Declar
     Ok(Some(declaration))
 }
 
+/// The declarations that the rows of an image state, in the order of TypeDef.
+fn types_in(alloc: Global, tables: &Tables<'_>) -> Result<Vec<Declaration>, Unread>
+    ensures enums { IfOk result (λ types. All IsEnum types.items) }
+{
+    let mut types = Vec::new(alloc);
+    let mut rows = Vec::new(alloc);
+    for i in 0..tables.count(Table::TypeDef) {
+        if let Some(declaration) = type_of(alloc, tables, i + 1)? {
+            types.push(declaration)?;
+            rows.push(i + 1)?;
+        }
+    }
+    check_set(tables, &rows, &types)?;
+    Ok(types)
+}
+
 /// The declarations that an image states, in the order of TypeDef, or the first fault that stands in the way. It takes a time that grows with the
 /// square of the image's size.
 pub fn types_of(alloc: Global, image: &[u8]) -> Result<Vec<Declaration>, Unread>
@@ -110,14 +126,5 @@ pub fn types_of(alloc: Global, image: &[u8]) -> Result<Vec<Declaration>, Unread>
     let tables = Tables::new(&streams)?;
     check_lists(&tables)?;
     check_generics(&tables)?;
-    let mut types = Vec::new(alloc);
-    let mut rows = Vec::new(alloc);
-    for i in 0..tables.count(Table::TypeDef) {
-        if let Some(declaration) = type_of(alloc, &tables, i + 1)? {
-            types.push(declaration)?;
-            rows.push(i + 1)?;
-        }
-    }
-    check_set(&tables, &rows, &types)?;
-    Ok(types)
+    types_in(alloc, &tables)
 }
