@@ -1,5 +1,5 @@
 -- Pieces that are written, and pieces that become work.
-use Rattle.std.proofs.Common.{◌≡◌, ◌≢◌, ◌<◌, ◌≤◌, ◌||◌, ℕ, zero, suc, Bool, true, false, List, [], ◌∷◌, ◌++◌, ◌⊎◌, ⊎_elim, inl, inr, Some, length, map, slice_get, set, get_or, refl, sym, ap, subst, ◌∙◌, arith, append_assoc, length-append}
+use Rattle.std.proofs.Common.{◌≡◌, ◌≢◌, true≢false, cond, ◌<◌, ◌≤◌, ◌||◌, ℕ, zero, suc, Bool, true, false, List, [], ◌∷◌, ◌++◌, ◌⊎◌, ⊎_elim, inl, inr, Some, length, map, slice_get, set, get_or, refl, sym, ap, subst, ◌∙◌, arith, append_assoc, length-append}
 use Rattle.std.specs.List.{flat_map}
 use Rattle.std.specs.Str.{bytes_eq}
 use Rattle.std.specs.Cmp.Lexicographic.{bytes_decides}
@@ -11,10 +11,10 @@ use Rattle.wr_base.specs.Declarations.{name_of, IsInOrder, times}
 use Rattle.wr_base.specs.declared.declaration.Declaration.{Declaration}
 use Rattle.wr_base.proofs.TwiceLemmas.{rises_once}
 use Rattle.wr_base.specs.Trees.{UseTree, tree_of}
-use Rattle.wr_rules.specs.Signatures.{Piece, closing, is_open, joined, pieces_of, part as piece_part, nested}
-use Rattle.pinterface_id.specs.Stack.{Item, part, leave, put, name_in, name_at, names_open, rest, Opened, Moved, closed_at, deeper}
+use Rattle.wr_rules.specs.Signatures.{Piece, closing, is_open, joined, pieces_of, part as piece_part, nested, grouped}
+use Rattle.pinterface_id.specs.Stack.{Opens, IsNamed, Item, part, leave, put, name_in, name_at, names_open, rest, Opened, Moved, closed_at, deeper}
 use Rattle.pinterface_id.proofs.Times.{one_more, no_more, there}
-use Rattle.pinterface_id.proofs.PieceLaws.{rest_parts, opened_parts, nested_is}
+use Rattle.pinterface_id.proofs.PieceLaws.{two_put, rest_parts, opened_parts, nested_is}
 use Rattle.wr_base.specs.declared.type_use.TypeUse.{TypeUse}
 
 there_two : (ds : List Declaration) (i j : ℕ) (name : List ℕ) → i < j → slice_get (map name_of ds) i ≡ Some name → slice_get (map name_of ds) j ≡ Some name → 2 ≤ times ds name
@@ -139,3 +139,31 @@ module _ (types : List Declaration) where
       subst (λ (ps : List Piece). Moved types (ps ++ rest types st) now ahead old new)
       (sym (nested_is types word name i uses st e (ap (is_open (names_open types st)) (sym e) ∙ sym (o.flags i l) ∙ shut)))
       (parts_move (word ++ 40 ∷ name) (map tree_of uses) now st (leave i ∷ st) ahead old new (opened_one open_ now st i order l o shut is) so refl text)
+
+  -- a struct or a class that is open already
+  pub again : (word name : List ℕ) (i : ℕ) (uses : List TypeUse) (open_ : List Bool) (st : List Item) (old new : List ℕ) → IsNamed types i name → Opened types open_ st → get_or open_ i false ≡ true
+      → new ≡ old ++ ((word ++ 40 ∷ name) ++ 41 ∷ []) → Moved types (nested types (deeper types (names_open types st)) (names_open types st) word name uses ++ rest types st) open_ st old new
+  again word name i uses open_ st old new n o met text =
+      subst (λ (b : Bool). Moved types (grouped word name (cond b [] (map (λ u. deeper types (names_open types st) (name ∷ names_open types st) (tree_of u)) uses)) ++ rest types st) open_ st old new)
+      (sym (ap (is_open (names_open types st)) (sym n.named) ∙ sym (o.flags i n.within) ∙ met))
+      (only_text (Some (word ++ 40 ∷ name) ∷ closing ∷ []) open_ st old new ((word ++ 40 ∷ name) ++ 41 ∷ []) o text (λ r. two_put (word ++ 40 ∷ name) (41 ∷ []) ((word ++ 40 ∷ name) ++ 41 ∷ []) r refl) (omega arith))
+
+  -- either way, where the parts are put in front of what is left
+  pub entered : (word name : List ℕ) (i : ℕ) (uses : List TypeUse) (open_ now : List Bool) (st mid ahead : List Item) (old new : List ℕ) → IsInOrder types → IsNamed types i name → Opened types open_ st
+      → Opens true i (word ++ 40 ∷ name) open_ st old now mid new → ahead ≡ map part (map tree_of uses) ++ mid
+      → Moved types (nested types (deeper types (names_open types st)) (names_open types st) word name uses ++ rest types st) now ahead old new
+  entered word name i uses open_ now st mid ahead old new order n o p a =
+      enters word name i uses open_ now st ahead old new order n.within n.named o p.0 p.1 (a ∙ ap (λ (s : List Item). map part (map tree_of uses) ++ s) p.2) p.3
+
+  pub met_again : (word name : List ℕ) (i : ℕ) (uses : List TypeUse) (open_ now : List Bool) (st ahead : List Item) (old new : List ℕ) (fresh : Bool) → fresh ≡ false → IsNamed types i name → Opened types open_ st
+      → Opens fresh i (word ++ 40 ∷ name) open_ st old now ahead new
+      → Moved types (nested types (deeper types (names_open types st)) (names_open types st) word name uses ++ rest types st) now ahead old new
+  met_again word name i uses open_ now st ahead old new true f n o p = absurd (true≢false f)
+  met_again word name i uses open_ now st ahead old new false f n o p =
+      subst (λ (flags : List Bool). Moved types (nested types (deeper types (names_open types st)) (names_open types st) word name uses ++ rest types st) flags ahead old new) (sym p.1)
+      (subst (λ (s : List Item). Moved types (nested types (deeper types (names_open types st)) (names_open types st) word name uses ++ rest types st) open_ s old new) (sym p.2)
+      (again word name i uses open_ st old new n o p.0 p.3))
+
+  pub fresh_one : (i : ℕ) (head : List ℕ) (open_ now : List Bool) (st ahead : List Item) (old new : List ℕ) (fresh : Bool) → fresh ≡ true → Opens fresh i head open_ st old now ahead new → Opens true i head open_ st old now ahead new
+  fresh_one i head open_ now st ahead old new true f p = p
+  fresh_one i head open_ now st ahead old new false f p = absurd (true≢false (sym f))

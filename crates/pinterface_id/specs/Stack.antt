@@ -1,5 +1,5 @@
 -- What is left to write of a signature.
-use Rattle.std.specs.Prelude.{◌≡◌, ◌<◌, ◌+◌, ◌-◌, ℕ, suc, Bool, true, false, cond, List, [], ◌∷◌, ◌++◌, Option, Some, None, length, map, reverse, sum_by, slice_get, slice_index_or, option_map}
+use Rattle.std.specs.Prelude.{◌≡◌, ◌<◌, ◌+◌, ◌-◌, ℕ, suc, Bool, true, false, cond, List, [], ◌∷◌, ◌++◌, Option, Some, None, length, map, reverse, sum_by, slice_get, slice_index_or, slice_set, option_map}
 use Rattle.wr_base.specs.Declarations.{name_of}
 use Rattle.wr_base.specs.declared.declaration.Declaration.{Declaration}
 use Rattle.found_table.specs.Found.{FoundRow}
@@ -87,3 +87,13 @@ abbrev pub template_id : Option kinds.Meaning → Option ℕ
 template_id (Some (kinds.found (FoundRow.Interface name arguments id members))) = Some id
 template_id (Some (kinds.found (FoundRow.Delegate name arguments id params))) = Some id
 template_id _ = None
+
+-- a struct or a class of this name stands at this place
+pub record IsNamed (types : List Declaration) (i : ℕ) (name : List ℕ) : Type 0 where
+  pub within : i < length types
+  pub named : name_at types i ≡ name
+
+-- the head of a struct or a class is written, which wasn't open and now is; or it was, and is closed at once
+abbrev pub Opens : Bool → ℕ → List ℕ → List Bool → List Item → List ℕ → List Bool → List Item → List ℕ → Type 0
+Opens true i head open_ st old now ahead new = (slice_index_or open_ i false ≡ false) × (now ≡ slice_set open_ i true) × (ahead ≡ leave i ∷ st) × (new ≡ old ++ head)
+Opens false i head open_ st old now ahead new = (slice_index_or open_ i false ≡ true) × (now ≡ open_) × (ahead ≡ st) × (new ≡ old ++ (head ++ 41 ∷ []))

@@ -5,8 +5,10 @@ ghost use Rattle.found_table.specs.Views.{found_view, part_view};
 ghost use Rattle.wr_base.specs.Declarations.{IsInOrder};
 ghost use Rattle.wr_rules.specs.Kinds as kinds;
 ghost use Rattle.wr_base.specs.Trees.{tree_of};
-ghost use Rattle.wr_rules.specs.Signatures.{declared_pieces, found_pieces, meaning_pieces, level_pieces, found_piece, signature_text};
-ghost use Rattle.pinterface_id.specs.Stack.{part, items_of, names_open, rest, Opened, Moved, Entered, deeper, template_id, item_of};
+ghost use Rattle.std.specs.Prelude.{codes};
+ghost use Rattle.wr_rules.specs.Kinds.{option_list};
+ghost use Rattle.wr_rules.specs.Signatures.{braced, flags_text, nested, declared_pieces, found_pieces, meaning_pieces, level_pieces, found_piece, signature_text};
+ghost use Rattle.pinterface_id.specs.Stack.{Opens, IsNamed, part, items_of, names_open, rest, Opened, Moved, Entered, deeper, template_id, item_of};
 ghost use Rattle.pinterface_id.specs.Progress.{Advanced};
 ghost use Rattle.pinterface_id.specs.Found.{FoundWritten, PartWritten};
 ghost use Rattle.pinterface_id.specs.Views.{meaning_view};
@@ -80,6 +82,101 @@ fn push_uses<'a>(stack: &mut Vec<Work<'a>>, uses: &'a [TypeUse]) -> Result<(), A
     Ok(())
 }
 
+// Writes the head of a struct or a class, which then is open, or is written whole where it is open already.
+fn open<'a>(
+    flags: &mut [bool],
+    stack: &mut Vec<Work<'a>>,
+    text: &mut String,
+    i: u32,
+    word: &str,
+    name: &FullName,
+) -> Result<bool, AllocError>
+    requires { i < length flags.old }
+    ensures { IfOk result (λ fresh. Opens fresh i (word.now ++ 40 ∷ name.now) flags.old (items_of stack.old.items) (string_bytes text.old) flags.new (items_of stack.new.items) (string_bytes text.new)) }
+{
+    push_head(text, word, name.as_str())?;
+    if flags[i as usize] {
+        text.push_str(")")?;
+        return Ok(false);
+    }
+    flags[i as usize] = true;
+    stack.push(Work::Leave(i))?;
+    Ok(true)
+}
+
+fn push_default<'a>(
+    stack: &mut Vec<Work<'a>>,
+    default: &'a Option<TypeUse>,
+) -> Result<(), AllocError>
+    ensures { OnOk result (items_of stack.new.items ≡ map part (map tree_of (option_list default.now)) ++ items_of stack.old.items) }
+{
+    match default {
+        None => Ok(()),
+        Some(default) => {
+            stack.push(Work::Part(default))?;
+            Ok(())
+        }
+    }
+}
+
+fn enter_struct<'a>(
+    types: &'a Types,
+    flags: &mut [bool],
+    stack: &mut Vec<Work<'a>>,
+    text: &mut String,
+    i: u32,
+    name: &FullName,
+    fields: &'a [Field],
+) -> Result<(), AllocError>
+    requires order { IsInOrder types.now }
+    requires at { IsNamed types.now i name.now }
+    requires opened { Opened types.now flags.old (items_of stack.old.items) }
+    ensures { OnOk result (let st = items_of stack.old.items in let inside = names_open types.now st in Moved types.now (nested types.now (deeper types.now inside) inside (codes "struct") name.now (map (λ f. f.ty) fields.now) ++ rest types.now st) flags.new (items_of stack.new.items) (string_bytes text.old) (string_bytes text.new)) }
+{
+    if !open(flags, stack, text, i, "struct", name)? {
+        return Ok(());
+    }
+    push_fields(stack, fields)
+}
+
+fn enter_class<'a>(
+    types: &'a Types,
+    flags: &mut [bool],
+    stack: &mut Vec<Work<'a>>,
+    text: &mut String,
+    i: u32,
+    name: &FullName,
+    default: &'a Option<TypeUse>,
+) -> Result<(), AllocError>
+    requires order { IsInOrder types.now }
+    requires at { IsNamed types.now i name.now }
+    requires opened { Opened types.now flags.old (items_of stack.old.items) }
+    ensures { OnOk result (let st = items_of stack.old.items in let inside = names_open types.now st in Moved types.now (nested types.now (deeper types.now inside) inside (codes "rc") name.now (option_list default.now) ++ rest types.now st) flags.new (items_of stack.new.items) (string_bytes text.old) (string_bytes text.new)) }
+{
+    if !open(flags, stack, text, i, "rc", name)? {
+        return Ok(());
+    }
+    push_default(stack, default)
+}
+
+fn push_enum(text: &mut String, name: &FullName, flags: bool) -> Result<(), AllocError>
+    ensures { OnOk result (string_bytes text.new ≡ string_bytes text.old ++ ((codes "enum" ++ 40 ∷ name.now) ++ 59 ∷ flags_text flags ++ 41 ∷ [])) }
+{
+    push_head(text, "enum", name.as_str())?;
+    text.push_str(";")?;
+    text.push_str(flags_text(flags))?;
+    text.push_str(")")?;
+    Ok(())
+}
+
+fn push_delegate(text: &mut String, id: u128) -> Result<(), AllocError>
+    ensures { OnOk result (string_bytes text.new ≡ string_bytes text.old ++ ((codes "delegate" ++ 40 ∷ braced id) ++ 41 ∷ [])) }
+{
+    push_id_head(text, "delegate", id)?;
+    text.push_str(")")?;
+    Ok(())
+}
+
 fn enter_declared<'a>(
     types: &'a Types,
     flags: &mut [bool],
@@ -98,44 +195,14 @@ fn enter_declared<'a>(
             name,
             flags: is_flags,
             ..
-        } => {
-            push_head(text, "enum", name.as_str())?;
-            text.push_str(";")?;
-            text.push_str(flags_text(*is_flags))?;
-            text.push_str(")")?;
-            Ok(())
-        }
+        } => push_enum(text, name, *is_flags),
         Declaration::Struct { name, fields, .. } => {
-            push_head(text, "struct", name.as_str())?;
-            if flags[i as usize] {
-                text.push_str(")")?;
-                return Ok(());
-            }
-            flags[i as usize] = true;
-            stack.push(Work::Leave(i))?;
-            push_fields(stack, fields.as_slice())
+            enter_struct(types, flags, stack, text, i, name, fields.as_slice())
         }
-        Declaration::Delegate { id, .. } => {
-            push_id_head(text, "delegate", *id)?;
-            text.push_str(")")?;
-            Ok(())
-        }
+        Declaration::Delegate { id, .. } => push_delegate(text, *id),
         Declaration::Interface { id, .. } => push_braced(text, *id),
         Declaration::Class { name, default, .. } => {
-            push_head(text, "rc", name.as_str())?;
-            if flags[i as usize] {
-                text.push_str(")")?;
-                return Ok(());
-            }
-            flags[i as usize] = true;
-            stack.push(Work::Leave(i))?;
-            match default {
-                None => Ok(()),
-                Some(default) => {
-                    stack.push(Work::Part(default))?;
-                    Ok(())
-                }
-            }
+            enter_class(types, flags, stack, text, i, name, default)
         }
     }
 }

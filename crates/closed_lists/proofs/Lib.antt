@@ -1,0 +1,3 @@
+mod Examples
+pub mod Positions
+pub mod Meetings

@@ -1,0 +1,29 @@
+-- Declarations with their lists closed.
+use Rattle.std.specs.Prelude.{◌≡◌, ◌↔◌, ℕ, IsTrue, List, Contains}
+use Rattle.wr_base.specs.declared.declaration.Declaration.{Declaration}
+use Rattle.wr_base.specs.declared.declaration.Declaration.TheVariants.{Enum, Struct, Delegate, Interface, Class}
+use Rattle.wr_base.specs.declared.type_use.TypeUse.{TypeUse}
+use Rattle.wr_rules.specs.Closures.{Closed, lists}
+use Rattle.wr_rules.specs.ListRules.{listed_in}
+use Rattle.wr_rules.specs.Sites.{Site}
+use Rattle.closed_lists.specs.Closing.{uses_from}
+
+-- what a list leads to, by text, each use as it is written in the list or where it is required
+pub record IsClosure (types : List Declaration) (list : List TypeUse) (whole : List TypeUse) : Type 0 where
+  pub texts : (text : List ℕ) → IsTrue (lists whole text) ↔ Closed types list text
+  pub written : (u : TypeUse) → Contains whole u → Contains (uses_from types list) u
+
+-- a declaration with this list as its `requires` or `has`
+abbrev pub with_list : List TypeUse → Declaration → Declaration
+with_list whole (Interface name version id owner requires_ members) = Interface name version id owner whole members
+with_list whole (Class name version fixed default has direct factories statics) = Class name version fixed default whole direct factories statics
+with_list whole (Enum name version flags cases) = Enum name version flags cases
+with_list whole (Struct name version fields) = Struct name version fields
+with_list whole (Delegate name version id invoke) = Delegate name version id invoke
+
+-- a declaration with its list closed, where it stands
+pub record IsClosing (types : List Declaration) (open_ : Site) (closed : Site) : Type 0 where
+  pub whole : List TypeUse
+  pub closure : IsClosure types (listed_in open_.decl) whole
+  pub decl : closed.decl ≡ with_list whole open_.decl
+  pub places : closed.places ≡ open_.places

@@ -1,0 +1,4 @@
+pub mod Views
+pub mod Indexes
+pub mod Closing
+pub mod Closures
