@@ -1,7 +1,7 @@
 -- Where the rows of lines stand.
 use Rattle.std.proofs.Common.{◌≡◌, ℕ, zero, suc, ◌+◌, ◌-◌, Bool, true, false, ltb, leb, List, [], ◌∷◌, ◌++◌, length, take, drop, map, get_or, Ok, refl, sym, ap, subst, ◌∙◌, append_assoc, arith, length-append, inl, inr}
 use Rattle.std.specs.Prelude.{◌==◌, ◌⊎◌}
-use Rattle.std.proofs.lemmas.Bool.{eqb-true, ne_eqb, lt-ltb, le-ltb, le-leb}
+use Rattle.std.proofs.lemmas.Bool.{eqb-true, lt-ltb, le-ltb, le-leb}
 use Rattle.std.proofs.lemmas.List.{take_at, drop_at, append-nil, length-map}
 use Rattle.md_schema.specs.declared.table.Table.{Table}
 use Rattle.md_schema.specs.declared.table.Table.TheVariants as tables
@@ -178,8 +178,7 @@ list_is t names lines pre l own post table column member p q e h g next n c =
     let back : List Row = map stated_row (written names (behind_all after own) post member) in
     let rows : t.rows member ≡ front ++ (part ++ back) =
     rows_split t names lines pre (l ∷ (own ++ post)) member q e ∙ ap (λ (r : List Row). front ++ r) (rw g (ap (map stated_row) (written-append names after own post member) ∙ map-append stated_row (written names after own member) (written names (behind_all after own) post member))) in
-    let some : (suc (before member) == 0) ≡ false = ne_eqb _ _ (λ same. omega (arith, same)) in
     let o : suc (before member) - 1 ≡ before member = omega arith in
     let size : suc (behind_all after own member) - suc (before member) ≡ length part = omega (arith, len, length-map (written names after own member) stated_row) in
     let cut = part-numbered front part back (length part) (before member) (length-front names pre member) refl in
-    rw (first, end, some, o, size, rows, cut) refl
+    rw (first, end, o, size, rows, cut) refl

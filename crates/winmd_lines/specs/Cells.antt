@@ -97,12 +97,12 @@ row_at t table n offset = if nat_le 1 n && nat_le n (length (t.rows table)) then
 abbrev pub list_from : Tables → Table → ℕ → Table → ℕ → Result ℕ Fault
 list_from t owner column member n = if nat_lt (length (t.rows owner)) n then Ok (suc (length (t.rows member))) else row_in (get_or (t.rows owner) (n - 1) []) column
 
--- the rows of the list of a row; a list that begins at 0 has none
+-- the rows of the list of a row, which begins at 0 only where it is empty (that is asked of all rows before)
 abbrev pub list_of : Tables → Table → ℕ → Table → ℕ → Result (List Numbered) Fault
 list_of t owner column member n = do
   first ← list_from t owner column member n
   end ← list_from t owner column member (suc n)
-  if first == 0 && nat_lt 0 end then fault RowRange (at t owner n column) else Ok (take (end - first) (drop (first - 1) (all_rows t member)))
+  Ok (take (end - first) (drop (first - 1) (all_rows t member)))
 
 -- no rows are here: else a fault stands at the first
 abbrev pub none_of : ImageKind → (ℕ → ℕ) → List Numbered → Result Bool Fault

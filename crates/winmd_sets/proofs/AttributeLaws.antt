@@ -25,6 +25,7 @@ use Rattle.winmd_lines.proofs.LineLaws.{either, row_is, row_of, map-append, behi
 use Rattle.winmd_sets.proofs.NameLaws.{found, ref_named, TwoParts}
 use Rattle.winmd_lines.proofs.OwnerLaws.{tag, leading, owned_is, owner_rows, row_there}
 use Rattle.winmd_lines.proofs.SortLaws.{Ascending, sorted_keeps}
+use Rattle.sig_blobs.specs.declared.argument.Argument.{Argument}
 
 -- the tables of a set
 abbrev pub tables_of : Names → List DeclTree → Offsets → Tables
@@ -119,7 +120,7 @@ made names ds offset m h =
     }
 
 -- an attribute's row
-pub attribute_is : (t : Tables) (names : Names) (before : Counts) (table : Table) (m : Maker) (arguments : List ℕ) (k : ℕ) (c : Made t names m)
+pub attribute_is : (t : Tables) (names : Names) (before : Counts) (table : Table) (m : Maker) (arguments : List Argument) (k : ℕ) (c : Made t names m)
     → attribute_of t (k, row_of names before (attribute table m arguments)) ≡ Ok (record { made = c.it; row = (k, row_of names before (attribute table m arguments)) })
 attribute_is t names before table m arguments k c = rw (c.is (at t tables.CustomAttribute k 1)) refl
 

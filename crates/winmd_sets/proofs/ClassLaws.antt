@@ -1,15 +1,11 @@
 -- Reading the rows of a class gives it.
-use Rattle.std.proofs.Common.{◌≡◌, ℕ, zero, suc, ◌^◌, ◌<◌, Bool, true, false, leb, List, [], ◌∷◌, ◌++◌, length, drop, get_or, map, Option, Some, None, Ok, refl, sym, ap, subst, ◌∙◌, append_assoc, length-append, arith, inl, inr}
+use Rattle.std.proofs.Common.{◌≡◌, ℕ, zero, suc, ◌^◌, ◌<◌, Bool, true, false, List, [], ◌∷◌, ◌++◌, length, drop, get_or, map, Option, Some, None, Ok, refl, sym, ap, subst, ◌∙◌, append_assoc, arith, inl, inr}
 use Rattle.std.specs.Prelude.{◌==◌, ⊤, bytes_eq, codes, if◌then◌else◌}
 use Rattle.std.specs.List.{flat_map, filter, list_any, AllByRecursion}
 use Rattle.std.proofs.Math.Dec.{eqb-suc-zero}
-use Rattle.std.proofs.lemmas.Bool.{le-leb}
-use Rattle.std.proofs.lemmas.List.{take_at, drop_at, append-nil}
+use Rattle.std.proofs.lemmas.List.{append-nil}
 use Rattle.std.proofs.lemmas.List.Elements.{filter-append}
-use Rattle.md_bytes.specs.Bytes.{le}
-use Rattle.md_bytes.proofs.NumberLemmas.{number-le}
 use Rattle.md_schema.specs.declared.table.Table.TheVariants as tables
-use Rattle.md_heaps.specs.Integers.{shortest}
 use Rattle.winmd_rows.specs.Faults.{each, somes}
 use Rattle.winmd_rows.specs.Values.{Value, Offsets, stated_row}
 use Rattle.winmd_lines.specs.Lines.{Line}
@@ -19,16 +15,14 @@ use Rattle.winmd_sets.specs.Members.{when, attribute}
 use Rattle.winmd_lines.specs.Names.{Names, Counts, none, behind, place, is_maker}
 use Rattle.winmd_lines.specs.Positions.{behind_all, NoneIn, Apart, AllOwned, owned}
 use Rattle.winmd_lines.specs.Cells.{Tables, at, has_bit}
-use Rattle.winmd_sets.specs.Attributes.{Attribute, attribute_of, attributes_of, is_of, of_word, at_most_one, words_of, to_comma, type_name_of, version_of}
+use Rattle.winmd_sets.specs.Attributes.{Attribute, attribute_of, attributes_of, is_of, of_word, at_most_one, type_name_of, version_of}
 use Rattle.winmd_sets.specs.Classes.{with_default, Making, Direct, Through, making_of, is_direct, throughs, names_in_order, class_of}
 use Rattle.winmd_sets.specs.Types.{type_of}
 use Rattle.winmd_sets.specs.Rows.{all_lines}
 use Rattle.winmd_lines.specs.Orders.{set_by}
-use Rattle.winmd_sets.specs.Values.{words_bytes, value_bytes}
 use Rattle.wr_base.specs.Trees.{DeclTree, UseTree, class, text_of_tree}
 use Rattle.winmd_sets.specs.Fits.{listed_default}
 use Rattle.winmd_sets.proofs.AttributeLaws.{tables_of, MakerOk, made, made_by, attribute_is, attributes_are}
-use Rattle.winmd_lines.proofs.IntegerLaws.{shortest_read}
 use Rattle.winmd_lines.proofs.LineLaws.{either, row_of, behind_all-append}
 use Rattle.winmd_sets.proofs.ListedLaws.{tagged_uses, uses_tagged, has_owned, has_written, interfaces_read}
 use Rattle.winmd_sets.proofs.MemberLaws.{CellOk}
@@ -37,18 +31,23 @@ use Rattle.winmd_sets.proofs.ShapeLaws.{none_join, none_when, apart_join, of_fla
 use Rattle.winmd_sets.proofs.BlobLaws.{method_again}
 use Rattle.winmd_sets.proofs.TypeLaws.{Stands_, NameOk, base_read, none_written}
 use Rattle.winmd_sets.proofs.BlobLaws.{IsPath, UseOk}
+use Rattle.winmd_sets.specs.Values.{number_argument, type_argument}
+use Rattle.sig_blobs.specs.Attributes.{value_bytes}
+use Rattle.winmd_sets.proofs.ArgumentLaws.{number_read, type_read}
+use Rattle.wr_base.specs.Paths.{is_path}
+use Rattle.sig_blobs.specs.declared.argument.Argument.{Argument}
 
 -- ---- attributes of a type, by their constructors and arguments
 
 record Said : Type 0 where
   maker : Maker
-  arguments : List ℕ
+  arguments : List Argument
 
-abbrev said : Maker → List ℕ → Said
+abbrev said : Maker → List Argument → Said
 said maker arguments = record { maker = maker; arguments = arguments }
 
 abbrev said_name : Maker → ℕ → List ℕ → Said
-said_name maker version name = said maker (words_bytes name ++ le 4 version)
+said_name maker version name = said maker (type_argument name ++ number_argument version)
 
 -- the row of an attribute of the type of this number
 abbrev said_row : Names → ℕ → Said → List Value
@@ -100,16 +99,10 @@ names_of_word word b m version (f ∷ fs) h = (h, names_of_word word b m version
 -- ---- the arguments: a name, and a number that is passed over
 
 abbrev pub NameFits : List ℕ → Type 0
-NameFits name = IsPath name × (to_comma name ≡ name) × (length name < 2 ^ 29)
+NameFits name = IsPath name × (is_path name ≡ true) × (length name < 2 ^ 29)
 
 name_read : (t : Tables) (names : Names) (n k version : ℕ) (m : Maker) (name : List ℕ) → NameFits name → type_name_of t (said_attribute t names n k (said_name m version name)) ≡ Ok name
-name_read t names n k version m name h =
-    let c : List ℕ = shortest (length name) in
-    let tail : List ℕ = le 4 version ++ 0 ∷ 0 ∷ [] in
-    let e : ((c ++ name) ++ le 4 version) ++ 0 ∷ 0 ∷ [] ≡ c ++ (name ++ tail) = append_assoc (c ++ name) (le 4 version) (0 ∷ 0 ∷ []) ∙ append_assoc c name tail in
-    let all : leb (length name) (length (name ++ tail)) ≡ true = le-leb _ _ (let l = length-append name tail in omega (arith, l)) in
-    let words : words_of t (said_attribute t names n k (said_name m version name)) ≡ Ok name = rw (e, shortest_read (length name) (name ++ tail) h.2, drop_at c (name ++ tail) (length c) refl, all, take_at name tail (length name) refl) refl in
-    rw (words, h.1, h.0 (at t tables.CustomAttribute k 2)) refl
+name_read t names n k version m name h = type_read (at t tables.CustomAttribute k 2) name (number_argument version) h.0 h.1 h.2
 
 names_read : (t : Tables) (names : Names) (n : ℕ) (ks : List ℕ) (version : ℕ) (m : Maker) (fs : List (List ℕ)) → AllByRecursion NameFits fs
     → each (type_name_of t) (attributes t names n ks (map (said_name m version) fs)) ≡ Ok fs
@@ -118,7 +111,7 @@ names_read t names n ks version m (f ∷ fs) h = rw (name_read t names n (get_or
 
 -- ---- how a class is made
 
-direct_read : (t : Tables) (names : Names) (n k version : ℕ) → making_of t (said_attribute t names n k (said Maker.Activatable (le 4 version))) ≡ Ok Direct
+direct_read : (t : Tables) (names : Names) (n k version : ℕ) → making_of t (said_attribute t names n k (said Maker.Activatable (number_argument version))) ≡ Ok Direct
 direct_read t names n k version =
     let sig = method_again t names (made_by t names Maker.Activatable).offset (maker_signature Maker.Activatable) (record { fits = record { result = tt; params = (tt, tt); few = omega arith }; short = refl }) in
     rw sig refl
@@ -172,23 +165,23 @@ named_alone names n m version (f ∷ fs) b e =
     rw e (ap (λ (x : List (List Value)). said_row names n (said_name m version f) ∷ x) (named_alone names n m version fs (behind b (named_attribute m version f)) e))
 
 abbrev made_said : Bool → ℕ → List Said
-made_said true version = said Maker.Activatable (le 4 version) ∷ []
+made_said true version = said Maker.Activatable (number_argument version) ∷ []
 made_said false version = []
 
 abbrev all_said : ℕ → Bool → List (List ℕ) → List (List ℕ) → List Said
-all_said version direct fs ss = said Maker.Version (le 4 version) ∷ (made_said direct version ++ (map (said_name Maker.Factory version) fs ++ map (said_name Maker.Static version) ss))
+all_said version direct fs ss = said Maker.Version (number_argument version) ∷ (made_said direct version ++ (map (said_name Maker.Factory version) fs ++ map (said_name Maker.Static version) ss))
 
 direct_owned : (names : Names) (n version : ℕ) (direct : Bool) (fs ss : List (List ℕ)) (b : Counts) → b tables.TypeDef ≡ n
-    → owned names b tables.CustomAttribute 0 tables.TypeDef (when direct (attribute tables.TypeDef Maker.Activatable (le 4 version) ∷ []) ++ (map (named_attribute Maker.Factory version) fs ++ map (named_attribute Maker.Static version) ss))
+    → owned names b tables.CustomAttribute 0 tables.TypeDef (when direct (attribute tables.TypeDef Maker.Activatable (number_argument version) ∷ []) ++ (map (named_attribute Maker.Factory version) fs ++ map (named_attribute Maker.Static version) ss))
     ≡ map (said_row names n) (made_said direct version ++ (map (said_name Maker.Factory version) fs ++ map (said_name Maker.Static version) ss))
 direct_owned names n version true fs ss b e =
-    rw e (ap (λ (x : List (List Value)). said_row names n (said Maker.Activatable (le 4 version)) ∷ x) (named_owned names n Maker.Factory version fs (map (named_attribute Maker.Static version) ss) (map (said_name Maker.Static version) ss) (named_alone names n Maker.Static version ss) (behind b (attribute tables.TypeDef Maker.Activatable (le 4 version))) e))
+    rw e (ap (λ (x : List (List Value)). said_row names n (said Maker.Activatable (number_argument version)) ∷ x) (named_owned names n Maker.Factory version fs (map (named_attribute Maker.Static version) ss) (map (said_name Maker.Static version) ss) (named_alone names n Maker.Static version ss) (behind b (attribute tables.TypeDef Maker.Activatable (number_argument version))) e))
 direct_owned names n version false fs ss b e = named_owned names n Maker.Factory version fs (map (named_attribute Maker.Static version) ss) (map (said_name Maker.Static version) ss) (named_alone names n Maker.Static version ss) b e
 
 class_owned : (names : Names) (n : ℕ) (name : List ℕ) (version : ℕ) (fixed : Bool) (default : Option UseTree) (us : List UseTree) (direct : Bool) (fs ss : List (List ℕ)) (b : Counts) → b tables.TypeDef ≡ n
     → owned names b tables.CustomAttribute 0 tables.TypeDef (body_lines (class name version fixed default us direct fs ss)) ≡ map (said_row names n) (all_said version direct fs ss)
 class_owned names n name version fixed default us direct fs ss b e =
-    rw e (ap (λ (x : List (List Value)). said_row names n (said Maker.Version (le 4 version)) ∷ x)
+    rw e (ap (λ (x : List (List Value)). said_row names n (said Maker.Version (number_argument version)) ∷ x)
     (has_aside names n default us _ (map (said_row names n) (made_said direct version ++ (map (said_name Maker.Factory version) fs ++ map (said_name Maker.Static version) ss))) (direct_owned names n version direct fs ss) (behind b (version_of_type version)) e))
 
 none_named : (m : Maker) (version : ℕ) (fs : List (List ℕ)) → NoneIn tables.InterfaceImpl (map (named_attribute m version) fs)
@@ -197,25 +190,25 @@ none_named m version (f ∷ fs) = (refl, none_named m version fs)
 
 -- what stands behind the interfaces
 abbrev class_rest : ℕ → Bool → List (List ℕ) → List (List ℕ) → List Line
-class_rest version direct fs ss = when direct (attribute tables.TypeDef Maker.Activatable (le 4 version) ∷ []) ++ (map (named_attribute Maker.Factory version) fs ++ map (named_attribute Maker.Static version) ss)
+class_rest version direct fs ss = when direct (attribute tables.TypeDef Maker.Activatable (number_argument version) ∷ []) ++ (map (named_attribute Maker.Factory version) fs ++ map (named_attribute Maker.Static version) ss)
 
 none_rest : (version : ℕ) (direct : Bool) (fs ss : List (List ℕ)) → NoneIn tables.InterfaceImpl (class_rest version direct fs ss)
 none_rest version direct fs ss =
-    none_join tables.InterfaceImpl (when direct (attribute tables.TypeDef Maker.Activatable (le 4 version) ∷ [])) _ (none_when tables.InterfaceImpl direct (attribute tables.TypeDef Maker.Activatable (le 4 version) ∷ []) (refl, tt))
+    none_join tables.InterfaceImpl (when direct (attribute tables.TypeDef Maker.Activatable (number_argument version) ∷ [])) _ (none_when tables.InterfaceImpl direct (attribute tables.TypeDef Maker.Activatable (number_argument version) ∷ []) (refl, tt))
     (none_join tables.InterfaceImpl (map (named_attribute Maker.Factory version) fs) _ (none_named Maker.Factory version fs) (none_named Maker.Static version ss))
 
 apart_named : (m : Maker) (version : ℕ) (fs : List (List ℕ)) → Apart tables.CustomAttribute 0 tables.InterfaceImpl (map (named_attribute m version) fs)
 apart_named m version [] = tt
 apart_named m version (f ∷ fs) = (refl, apart_named m version fs)
 
-apart_direct : (version : ℕ) (direct : Bool) → Apart tables.CustomAttribute 0 tables.InterfaceImpl (when direct (attribute tables.TypeDef Maker.Activatable (le 4 version) ∷ []))
+apart_direct : (version : ℕ) (direct : Bool) → Apart tables.CustomAttribute 0 tables.InterfaceImpl (when direct (attribute tables.TypeDef Maker.Activatable (number_argument version) ∷ []))
 apart_direct version true = (refl, tt)
 apart_direct version false = tt
 
 apart_rest : (version : ℕ) (direct : Bool) (fs ss : List (List ℕ)) (post : List Line) → Apart tables.CustomAttribute 0 tables.InterfaceImpl post → Apart tables.CustomAttribute 0 tables.InterfaceImpl (class_rest version direct fs ss ++ post)
 apart_rest version direct fs ss post h =
     apart_join tables.CustomAttribute 0 tables.InterfaceImpl (class_rest version direct fs ss) post
-    (apart_join tables.CustomAttribute 0 tables.InterfaceImpl (when direct (attribute tables.TypeDef Maker.Activatable (le 4 version) ∷ [])) _ (apart_direct version direct)
+    (apart_join tables.CustomAttribute 0 tables.InterfaceImpl (when direct (attribute tables.TypeDef Maker.Activatable (number_argument version) ∷ [])) _ (apart_direct version direct)
     (apart_join tables.CustomAttribute 0 tables.InterfaceImpl (map (named_attribute Maker.Factory version) fs) _ (apart_named Maker.Factory version fs) (apart_named Maker.Static version ss))) h
 
 apart_has : (default : Option UseTree) (us : List UseTree) → Apart tables.CustomAttribute 0 tables.InterfaceImpl (flat_map (class_interface default) us)
@@ -310,7 +303,7 @@ said_version : (t : Tables) (names : Names) (n o version : ℕ) (ks : List ℕ) 
 said_version t names n o version ks direct fs ss lt =
     let none_ = of_word_none t names n (codes "Version") (drop 1 ks) (made_said direct version ++ (map (said_name Maker.Factory version) fs ++ map (said_name Maker.Static version) ss))
     (all_join _ (made_said direct version) _ (no_direct direct) (all_join _ (map (said_name Maker.Factory version) fs) _ (names_of_word (codes "Version") false Maker.Factory version fs refl) (names_of_word (codes "Version") false Maker.Static version ss refl))) in
-    rw (none_, number-le 4 version lt) refl
+    rw none_ (number_read (at t tables.CustomAttribute (get_or ks 0 0) 2) version [] lt)
   where
     no_direct : (b : Bool) → AreOf (codes "Version") false (made_said b version)
     no_direct true = (refl, tt)
@@ -344,7 +337,7 @@ said_statics : (t : Tables) (names : Names) (n version : ℕ) (ks : List ℕ) (d
 said_statics t names n version ks direct fs ss fits =
     let front : List Said = made_said direct version ++ map (said_name Maker.Factory version) fs in
     let st : List Said = map (said_name Maker.Static version) ss in
-    let e : all_said version direct fs ss ≡ said Maker.Version (le 4 version) ∷ (front ++ st) = ap (λ (x : List Said). said Maker.Version (le 4 version) ∷ x) (sym (append_assoc (made_said direct version) (map (said_name Maker.Factory version) fs) st)) in
+    let e : all_said version direct fs ss ≡ said Maker.Version (number_argument version) ∷ (front ++ st) = ap (λ (x : List Said). said Maker.Version (number_argument version) ∷ x) (sym (append_assoc (made_said direct version) (map (said_name Maker.Factory version) fs) st)) in
     let k : List ℕ = drop (length front) (drop 1 ks) in
     let a = of_word_none t names n (codes "Static") (drop 1 ks) front (all_join _ (made_said direct version) _ (no_direct direct) (names_of_word (codes "Static") false Maker.Factory version fs refl)) in
     let b = of_word_all t names n (codes "Static") k st (names_of_word (codes "Static") true Maker.Static version ss refl) in

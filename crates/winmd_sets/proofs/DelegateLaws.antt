@@ -3,7 +3,6 @@ use Rattle.std.proofs.Common.{◌≡◌, ℕ, suc, ◌^◌, ◌<◌, true, false
 use Rattle.std.specs.Prelude.{◌==◌, bytes_eq, codes}
 use Rattle.std.specs.List.{list_any}
 use Rattle.std.proofs.Math.Dec.{eqb-suc-zero}
-use Rattle.md_bytes.specs.Bytes.{le}
 use Rattle.md_schema.specs.declared.table.Table.TheVariants as tables
 use Rattle.winmd_rows.specs.Values.{Offsets, stated_row}
 use Rattle.winmd_lines.specs.Lines.{Bytes, Line}
@@ -15,7 +14,6 @@ use Rattle.winmd_lines.specs.Positions.{behind_all}
 use Rattle.winmd_lines.specs.Cells.{Tables, at}
 use Rattle.winmd_sets.specs.Types.{type_of}
 use Rattle.winmd_sets.specs.Rows.{all_lines}
-use Rattle.winmd_sets.specs.Values.{guid_bytes}
 use Rattle.wr_base.specs.Trees.{DeclTree, delegate, SignatureTree}
 use Rattle.winmd_sets.proofs.AttributeLaws.{tables_of, MakerOk, made, attribute_is, attributes_are}
 use Rattle.winmd_sets.proofs.InterfaceLaws.{version_among, id_among, not_owned, not_params}
@@ -24,6 +22,7 @@ use Rattle.winmd_lines.proofs.LineLaws.{row_of, list_is, behind_all-append}
 use Rattle.winmd_sets.proofs.MethodLaws.{SignatureAtOk, any_method, signature_at, params_written}
 use Rattle.winmd_sets.proofs.ShapeLaws.{none_params}
 use Rattle.winmd_sets.proofs.TypeLaws.{Stands_, NameOk, base_read, none_written}
+use Rattle.winmd_sets.specs.Values.{number_argument, id_argument}
 
 pub record DelegateOk (t : Tables) (names : Names) (name : List ℕ) (version id : ℕ) (invoke : SignatureTree) : Type 0 where
   pub named : NameOk name
@@ -58,8 +57,8 @@ delegate_type names ds offset pre name version id invoke post h s =
     let v = made names ds offset Maker.Version h.version_made in
     let i : ℕ = get_or found.0 0 0 in
     let j : ℕ = get_or (drop 1 found.0) 0 0 in
-    let ga = attribute_is t names after tables.TypeDef Maker.Guid (guid_bytes id) i g in
-    let va = attribute_is t names b1 tables.TypeDef Maker.Version (le 4 version) j v in
+    let ga = attribute_is t names after tables.TypeDef Maker.Guid (id_argument id) i g in
+    let va = attribute_is t names b1 tables.TypeDef Maker.Version (number_argument version) j v in
     let version_is = version_among t names after b1 id version i j n g v [] h.numbered_ refl in
     let id_is = id_among t names after b1 id version i j n g v [] h.id_fits refl in
     let list = list_is t names (all_lines names ds) pre (own_line d) (body_lines d) post tables.TypeDef 5 tables.MethodDef (record { is = refl }) (record { is = refl }) s.split refl refl refl s.alone s.methods_next in

@@ -1,5 +1,5 @@
 -- What names that fit have: two parts, none of which is `<Module>`, and no comma.
-use Rattle.std.proofs.Common.{◌≡◌, ℕ, ◌^◌, ◌<◌, Bool, true, false, leb, List, [], ◌∷◌, ◌++◌, length, refl, ap, subst, arith, inl, inr}
+use Rattle.std.proofs.Common.{◌≡◌, ℕ, ◌^◌, ◌<◌, Bool, true, false, leb, List, [], ◌∷◌, ◌++◌, length, refl, subst, arith, inl, inr}
 use Rattle.std.specs.Prelude.{◌||◌, ◌==◌, bytes_eq, codes}
 use Rattle.std.specs.List.{AllByRecursion, list_all, slice_split, onto_first}
 use Rattle.std.proofs.lemmas.Bool.{eqb-true, and_parts, leb-true}
@@ -9,7 +9,6 @@ use Rattle.wr_base.specs.Paths.{is_start, is_rest, is_identifier, parts_of, is_p
 use Rattle.wr_base.specs.Parts.{has, behind_last}
 use Rattle.wr_base.proofs.PartLaws.{joined_parts, path_dot}
 use Rattle.winmd_lines.proofs.LineLaws.{either}
-use Rattle.winmd_sets.specs.Attributes.{to_comma}
 use Rattle.winmd_sets.specs.Fits.{IsName}
 use Rattle.winmd_sets.proofs.BlobLaws.{IsPath}
 use Rattle.winmd_sets.proofs.NameLaws.{TwoParts}
@@ -115,15 +114,3 @@ not_module full h =
           absurd (let c : false ≡ true = all in cc)
       | inr e ↦ e
     ]
-
-no_comma : (bytes : List ℕ) → list_all in_path bytes ≡ true → to_comma bytes ≡ bytes
-no_comma [] h = refl
-no_comma (b ∷ bytes) h =
-    let both = and_parts (in_path b) (list_all in_path bytes) h in
-    elim (either (b == 44)) [
-      | inl e ↦ absurd (let c : in_path 44 ≡ true = subst (λ (x : ℕ). in_path x ≡ true) (eqb-true b 44 e) both.0 in cc)
-      | inr e ↦ rw e (ap (λ (x : List ℕ). b ∷ x) (no_comma bytes both.1))
-    ]
-
-pub name_comma : (full : List ℕ) → IsName full → to_comma full ≡ full
-name_comma full h = no_comma full (path_in full h.path)

@@ -11,16 +11,15 @@ use Rattle.std.specs.Prelude.{not, ◌||◌, bytes_eq}
 use Rattle.std.specs.List.{list_any}
 use Rattle.std.proofs.lemmas.List.Concat.{flat_map-cons}
 use Rattle.std.proofs.Common.{sym, subst, Option, Some, None}
-use Rattle.md_bytes.specs.Bytes.{le}
 use Rattle.md_schema.specs.declared.table.Table.TheVariants as tables
 use Rattle.wr_base.specs.declared.declaration.Case.{Case}
 use Rattle.winmd_sets.specs.Declared.{first_lines, lines_of, owner_of_type, interface_line, class_interface, is_default, named_attribute}
 use Rattle.winmd_sets.specs.Members.{when, attribute, case_lines, struct_field, member_lines, members_lines, method_names, map_line, map_lines, is_property, is_event}
 use Rattle.winmd_lines.specs.Names.{Names}
 use Rattle.winmd_sets.specs.Rows.{own_lines, made_lines, all_lines}
-use Rattle.winmd_sets.specs.Values.{words_bytes}
 use Rattle.wr_base.specs.Trees.{ParamTree, UseTree, FieldTree, MemberTree, method, property, event, DeclTree, enum, struct, delegate, interface, class}
 use Rattle.winmd_sets.specs.LineShapes.{line_ok}
+use Rattle.winmd_sets.specs.Values.{number_argument, words_argument}
 
 abbrev pub AllFit : List Line → Type 0
 AllFit lines = list_all line_ok lines ≡ true
@@ -59,7 +58,7 @@ fit_fields (f ∷ fs) = fit_fields fs
 
 fit_member : (earlier : List (List ℕ)) (m : MemberTree) → AllFit (member_lines earlier m)
 fit_member earlier (method name abi sig) =
-    fit_join (param_lines 1 sig.params) (when (not (bytes_eq abi name) || list_any (bytes_eq name) earlier) (attribute tables.MethodDef Maker.Overload (words_bytes abi) ∷ [])) (fit_params 1 sig.params) (fit_when (not (bytes_eq abi name) || list_any (bytes_eq name) earlier) (attribute tables.MethodDef Maker.Overload (words_bytes abi) ∷ []) refl)
+    fit_join (param_lines 1 sig.params) (when (not (bytes_eq abi name) || list_any (bytes_eq name) earlier) (attribute tables.MethodDef Maker.Overload (words_argument abi) ∷ [])) (fit_params 1 sig.params) (fit_when (not (bytes_eq abi name) || list_any (bytes_eq name) earlier) (attribute tables.MethodDef Maker.Overload (words_argument abi) ∷ []) refl)
 fit_member earlier (property name type_ true) = refl
 fit_member earlier (property name type_ false) = refl
 fit_member earlier (event name type_) = refl
@@ -98,7 +97,7 @@ fit_decl (interface name version id (Some owner) requires_ ms) =
     fit_join (map interface_line requires_) (map_lines ms ++ members_lines [] ms) (fit_requires requires_) (fit_join (map_lines ms) (members_lines [] ms) (fit_maps ms) (fit_members [] ms))
 fit_decl (class name version fixed default has direct factories statics) =
     fit_join (flat_map (class_interface default) has) _ (fit_has default has)
-    (fit_join (when direct (attribute tables.TypeDef Maker.Activatable (le 4 version) ∷ [])) (map (named_attribute Maker.Factory version) factories ++ map (named_attribute Maker.Static version) statics) (fit_when direct (attribute tables.TypeDef Maker.Activatable (le 4 version) ∷ []) refl)
+    (fit_join (when direct (attribute tables.TypeDef Maker.Activatable (number_argument version) ∷ [])) (map (named_attribute Maker.Factory version) factories ++ map (named_attribute Maker.Static version) statics) (fit_when direct (attribute tables.TypeDef Maker.Activatable (number_argument version) ∷ []) refl)
     (fit_join (map (named_attribute Maker.Factory version) factories) (map (named_attribute Maker.Static version) statics) (fit_named Maker.Factory version factories) (fit_named Maker.Static version statics)))
 
 fit_decls : (ds : List DeclTree) → AllFit (flat_map lines_of ds)

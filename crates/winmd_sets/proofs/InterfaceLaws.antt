@@ -1,10 +1,8 @@
 -- Reading the rows of an interface gives it.
-use Rattle.std.proofs.Common.{◌≡◌, ℕ, suc, ◌+◌, ◌*◌, ◌/◌, ◌%◌, ◌^◌, ◌<◌, ◌≤◌, Bool, true, false, leb, List, [], ◌∷◌, ◌++◌, length, drop, get_or, map, Option, Some, None, Ok, refl, sym, ap, subst, ◌∙◌, append_assoc, arith}
+use Rattle.std.proofs.Common.{◌≡◌, ℕ, suc, ◌^◌, ◌<◌, ◌≤◌, Bool, true, false, leb, List, [], ◌∷◌, ◌++◌, length, drop, get_or, map, Option, Some, None, Ok, refl, sym, ap, subst, ◌∙◌, append_assoc}
 use Rattle.std.specs.Prelude.{⊤, codes}
 use Rattle.std.specs.List.{list_any, AllByRecursion}
 use Rattle.std.proofs.lemmas.Bool.{le-leb}
-use Rattle.md_bytes.specs.Bytes.{le, number}
-use Rattle.md_bytes.proofs.NumberLemmas.{number-le}
 use Rattle.md_schema.specs.declared.table.Table.{Table}
 use Rattle.md_schema.specs.declared.table.Table.TheVariants as tables
 use Rattle.winmd_rows.specs.Faults.{each, ◌>>=◌}
@@ -16,43 +14,34 @@ use Rattle.winmd_sets.specs.Members.{when, attribute, param_lines, map_line, map
 use Rattle.winmd_lines.specs.Names.{Names, Counts, none, is_in, behind, written}
 use Rattle.winmd_lines.specs.Positions.{behind_all, NoneIn, belongs, owned}
 use Rattle.winmd_lines.specs.Cells.{Tables, at, numbered}
-use Rattle.winmd_sets.specs.Attributes.{Attribute, of_word, to_comma, version_of, id_of, exclusive_to, high_first, guid_of}
+use Rattle.winmd_sets.specs.Attributes.{Attribute, of_word, version_of, id_of, exclusive_to}
 use Rattle.winmd_sets.specs.Interfaces.{role_of, items_of, members_of, members_in, interface_of}
 use Rattle.winmd_sets.specs.Types.{type_of}
 use Rattle.winmd_sets.specs.Rows.{all_lines}
 use Rattle.winmd_lines.specs.Orders.{set_by}
-use Rattle.winmd_sets.specs.Values.{guid_bytes, words_bytes, be}
 use Rattle.wr_base.specs.Trees.{DeclTree, UseTree, text_of_tree, interface, ParamTree, MemberTree, method, property, event}
 use Rattle.winmd_sets.proofs.AttributeLaws.{tables_of, MakerOk, Made, made, attribute_is, attributes_are}
 use Rattle.winmd_lines.proofs.OwnerLaws.{no_rows}
 use Rattle.winmd_lines.proofs.LineLaws.{row_of, written-append, behind_all-append, behind-none, list_is}
-use Rattle.winmd_sets.proofs.MethodLaws.{is_overload, overload_line, words_again}
+use Rattle.winmd_sets.proofs.MethodLaws.{is_overload, overload_line}
 use Rattle.winmd_sets.proofs.MemberLaws.{CellOk, MembersOk, all_members}
 use Rattle.winmd_sets.proofs.ListedLaws.{interface_rows, tagged_uses, uses_tagged, requires_owned, requires_written, interfaces_read}
 use Rattle.winmd_sets.proofs.ShapeLaws.{none_join, none_when, none_method}
 use Rattle.winmd_sets.proofs.TypeLaws.{Stands_, NameOk, none_written}
 use Rattle.winmd_sets.proofs.BlobLaws.{IsPath}
-
--- ---- a Guid
-
-high_again : (x : ℕ) → x < 2 ^ 64 → high_first (be 8 x) ≡ x
-high_again x lt = omega (arith, lt)
-
-guid_again : (id : ℕ) → id < 2 ^ 128 → guid_of (guid_bytes id) ≡ id
-guid_again id lt =
-    let a : number (le 4 (id / 2 ^ 96)) ≡ id / 2 ^ 96 = number-le 4 (id / 2 ^ 96) (omega (arith, lt)) in
-    let b : number (le 2 (id / 2 ^ 80 % 2 ^ 16)) ≡ id / 2 ^ 80 % 2 ^ 16 = number-le 2 (id / 2 ^ 80 % 2 ^ 16) (omega arith) in
-    let c : number (le 2 (id / 2 ^ 64 % 2 ^ 16)) ≡ id / 2 ^ 64 % 2 ^ 16 = number-le 2 (id / 2 ^ 64 % 2 ^ 16) (omega arith) in
-    let d : high_first (be 8 (id % 2 ^ 64)) ≡ id % 2 ^ 64 = high_again (id % 2 ^ 64) (omega arith) in
-    let e : id / 2 ^ 96 * 2 ^ 96 + id / 2 ^ 80 % 2 ^ 16 * 2 ^ 80 + id / 2 ^ 64 % 2 ^ 16 * 2 ^ 64 + id % 2 ^ 64 ≡ id = omega arith in
-    rw (a, b, c, d) e
+use Rattle.winmd_sets.specs.Values.{number_argument, type_argument, id_argument}
+use Rattle.winmd_sets.proofs.ArgumentLaws.{number_read, id_read, type_read}
+use Rattle.wr_base.specs.Paths.{is_path}
+use Rattle.sig_blobs.specs.declared.argument.Argument.{Argument}
+use Rattle.std.proofs.Common.{Result}
+use Rattle.winmd_rows.specs.Faults.{Fault}
 
 -- ---- the interface
 
 -- an owner's name, and its attribute
 abbrev pub OwnerOk : Names → Option (List ℕ) → Type 0
 OwnerOk names None = ⊤
-OwnerOk names (Some owner) = IsPath owner × (to_comma owner ≡ owner) × (length owner < 2 ^ 29) × MakerOk names Maker.ExclusiveTo
+OwnerOk names (Some owner) = IsPath owner × (is_path owner ≡ true) × (length owner < 2 ^ 29) × MakerOk names Maker.ExclusiveTo
 
 pub record InterfaceOk (t : Tables) (names : Names) (name : List ℕ) (version id : ℕ) (owner : Option (List ℕ)) (us : List UseTree) (ms : List MemberTree) : Type 0 where
   pub named : NameOk name
@@ -101,12 +90,12 @@ none_rest ms = none_join tables.InterfaceImpl (map_lines ms) (members_lines [] m
 body_owned : (names : Names) (b : Counts) (name : List ℕ) (version id : ℕ) (owner : Option (List ℕ)) (us : List UseTree) (ms : List MemberTree)
     → owned names b tables.InterfaceImpl 0 tables.TypeDef (body_lines (interface name version id owner us ms)) ≡ interface_rows names (b tables.TypeDef) us
 body_owned names b name version id None us ms = requires_owned names (behind (behind b (id_of_type id)) (version_of_type version)) us (map_lines ms ++ members_lines [] ms) (none_rest ms)
-body_owned names b name version id (Some owner) us ms = requires_owned names (behind (behind (behind b (id_of_type id)) (version_of_type version)) (attribute tables.TypeDef Maker.ExclusiveTo (words_bytes owner))) us (map_lines ms ++ members_lines [] ms) (none_rest ms)
+body_owned names b name version id (Some owner) us ms = requires_owned names (behind (behind (behind b (id_of_type id)) (version_of_type version)) (attribute tables.TypeDef Maker.ExclusiveTo (type_argument owner))) us (map_lines ms ++ members_lines [] ms) (none_rest ms)
 
 body_written : (names : Names) (b : Counts) (name : List ℕ) (version id : ℕ) (owner : Option (List ℕ)) (us : List UseTree) (ms : List MemberTree)
     → written names b (body_lines (interface name version id owner us ms)) tables.InterfaceImpl ≡ interface_rows names (b tables.TypeDef) us
 body_written names b name version id None us ms = requires_written names (behind (behind b (id_of_type id)) (version_of_type version)) us (map_lines ms ++ members_lines [] ms) (none_rest ms)
-body_written names b name version id (Some owner) us ms = requires_written names (behind (behind (behind b (id_of_type id)) (version_of_type version)) (attribute tables.TypeDef Maker.ExclusiveTo (words_bytes owner))) us (map_lines ms ++ members_lines [] ms) (none_rest ms)
+body_written names b name version id (Some owner) us ms = requires_written names (behind (behind (behind b (id_of_type id)) (version_of_type version)) (attribute tables.TypeDef Maker.ExclusiveTo (type_argument owner))) us (map_lines ms ++ members_lines [] ms) (none_rest ms)
 
 -- what belongs to no type
 abbrev pub NotOwned : List Line → Type 0
@@ -178,26 +167,25 @@ methods_read names ds offset pre name version id owner us ms post h s attributes
 
 -- ---- its attributes
 
-abbrev pub an : (t : Tables) (names : Names) (m : Maker) → Made t names m → Counts → List ℕ → ℕ → Attribute
+abbrev pub an : (t : Tables) (names : Names) (m : Maker) → Made t names m → Counts → List Argument → ℕ → Attribute
 an t names m c before arguments k = record { made = c.it; row = (k, row_of names before (attribute tables.TypeDef m arguments)) }
 
 pub version_among : (t : Tables) (names : Names) (b1 b2 : Counts) (id version i j n : ℕ) (g : Made t names Maker.Guid) (v : Made t names Maker.Version) (more : List Attribute) → version < 2 ^ 32 → of_word (codes "Version") more ≡ []
-    → version_of t n (an t names Maker.Guid g b1 (guid_bytes id) i ∷ an t names Maker.Version v b2 (le 4 version) j ∷ more) ≡ Ok version
-version_among t names b1 b2 id version i j n g v more lt none_ = rw (g.typed, v.typed, none_, number-le 4 version lt) refl
+    → version_of t n (an t names Maker.Guid g b1 (id_argument id) i ∷ an t names Maker.Version v b2 (number_argument version) j ∷ more) ≡ Ok version
+version_among t names b1 b2 id version i j n g v more lt none_ = rw (g.typed, v.typed, none_) (number_read (at t tables.CustomAttribute j 2) version [] lt)
 
 pub id_among : (t : Tables) (names : Names) (b1 b2 : Counts) (id version i j n : ℕ) (g : Made t names Maker.Guid) (v : Made t names Maker.Version) (more : List Attribute) → id < 2 ^ 128 → of_word (codes "Guid") more ≡ []
-    → id_of t n (an t names Maker.Guid g b1 (guid_bytes id) i ∷ an t names Maker.Version v b2 (le 4 version) j ∷ more) ≡ Ok id
-id_among t names b1 b2 id version i j n g v more lt none_ = rw (g.typed, v.typed, none_, guid_again id lt) refl
+    → id_of t n (an t names Maker.Guid g b1 (id_argument id) i ∷ an t names Maker.Version v b2 (number_argument version) j ∷ more) ≡ Ok id
+id_among t names b1 b2 id version i j n g v more lt none_ = rw (g.typed, v.typed, none_) (id_read (at t tables.CustomAttribute i 2) id [] lt)
 
 no_owner : (t : Tables) (names : Names) (b1 b2 : Counts) (id version i j n : ℕ) (g : Made t names Maker.Guid) (v : Made t names Maker.Version)
-    → exclusive_to t n (an t names Maker.Guid g b1 (guid_bytes id) i ∷ an t names Maker.Version v b2 (le 4 version) j ∷ []) ≡ Ok None
+    → exclusive_to t n (an t names Maker.Guid g b1 (id_argument id) i ∷ an t names Maker.Version v b2 (number_argument version) j ∷ []) ≡ Ok None
 no_owner t names b1 b2 id version i j n g v = rw (g.typed, v.typed) refl
 
-one_owner : (t : Tables) (names : Names) (b1 b2 b3 : Counts) (id version i j k n : ℕ) (owner : List ℕ) (g : Made t names Maker.Guid) (v : Made t names Maker.Version) (x : Made t names Maker.ExclusiveTo) → IsPath owner → to_comma owner ≡ owner → length owner < 2 ^ 29
-    → exclusive_to t n (an t names Maker.Guid g b1 (guid_bytes id) i ∷ an t names Maker.Version v b2 (le 4 version) j ∷ an t names Maker.ExclusiveTo x b3 (words_bytes owner) k ∷ []) ≡ Ok (Some owner)
+one_owner : (t : Tables) (names : Names) (b1 b2 b3 : Counts) (id version i j k n : ℕ) (owner : List ℕ) (g : Made t names Maker.Guid) (v : Made t names Maker.Version) (x : Made t names Maker.ExclusiveTo) → IsPath owner → is_path owner ≡ true → length owner < 2 ^ 29
+    → exclusive_to t n (an t names Maker.Guid g b1 (id_argument id) i ∷ an t names Maker.Version v b2 (number_argument version) j ∷ an t names Maker.ExclusiveTo x b3 (type_argument owner) k ∷ []) ≡ Ok (Some owner)
 one_owner t names b1 b2 b3 id version i j k n owner g v x path comma lt =
-    let words = words_again t names b3 tables.TypeDef owner k Maker.ExclusiveTo x lt in
-    rw (g.typed, v.typed, x.typed, words, comma, path (at t tables.CustomAttribute k 2)) refl
+    rw (g.typed, v.typed, x.typed) (ap (λ (r : Result (List ℕ) Fault). r >>= λ name. Ok (Some name)) (type_read (at t tables.CustomAttribute k 2) owner [] path comma lt))
 
 pub interface_type : (names : Names) (ds : List DeclTree) (offset : Offsets) (pre : List Line) (name : List ℕ) (version id : ℕ) (owner : Option (List ℕ)) (us : List UseTree) (ms : List MemberTree) (post : List Line) → InterfaceOk (tables_of names ds offset) names name version id owner us ms
     → Stands_ names ds pre (interface name version id owner us ms) post
@@ -217,9 +205,9 @@ interface_type names ds offset pre name version id None us ms post h s =
     let v = made names ds offset Maker.Version h.version_made in
     let i : ℕ = get_or found.0 0 0 in
     let j : ℕ = get_or (drop 1 found.0) 0 0 in
-    let ga = attribute_is t names after tables.TypeDef Maker.Guid (guid_bytes id) i g in
-    let va = attribute_is t names b1 tables.TypeDef Maker.Version (le 4 version) j v in
-    let attributes : List Attribute = an t names Maker.Guid g after (guid_bytes id) i ∷ an t names Maker.Version v b1 (le 4 version) j ∷ [] in
+    let ga = attribute_is t names after tables.TypeDef Maker.Guid (id_argument id) i g in
+    let va = attribute_is t names b1 tables.TypeDef Maker.Version (number_argument version) j v in
+    let attributes : List Attribute = an t names Maker.Guid g after (id_argument id) i ∷ an t names Maker.Version v b1 (number_argument version) j ∷ [] in
     let read = methods_read names ds offset pre name version id None us ms post h s attributes (version_among t names after b1 id version i j n g v [] h.numbered_ refl) (id_among t names after b1 id version i j n g v [] h.id_fits refl) (no_owner t names after b1 id version i j n g v) in
     let few : leb (length ms) 4000 ≡ true = le-leb _ _ h.few in
     rw (h.named.parts, h.named.plain, inner, h.named.path (at t tables.TypeDef n 1), found.1, none_more, ga, va, read, few) refl
@@ -233,7 +221,7 @@ interface_type names ds offset pre name version id (Some owner) us ms post h s =
     let found = attributes_are names ds offset pre (own_line d) (body_lines d) post tables.TypeDef (record { is = refl }) s.split refl refl s.attributes_owned s.alone s.attributes_next in
     let b1 : Counts = behind after (id_of_type id) in
     let b2 : Counts = behind b1 (version_of_type version) in
-    let b3 : Counts = behind b2 (attribute tables.TypeDef Maker.ExclusiveTo (words_bytes owner)) in
+    let b3 : Counts = behind b2 (attribute tables.TypeDef Maker.ExclusiveTo (type_argument owner)) in
     let none_more = not_owned names b3 (map interface_line us ++ (map_lines ms ++ members_lines [] ms)) (not_rest us ms) in
     let g = made names ds offset Maker.Guid h.guid_made in
     let v = made names ds offset Maker.Version h.version_made in
@@ -241,11 +229,11 @@ interface_type names ds offset pre name version id (Some owner) us ms post h s =
     let i : ℕ = get_or found.0 0 0 in
     let j : ℕ = get_or (drop 1 found.0) 0 0 in
     let k : ℕ = get_or (drop 1 (drop 1 found.0)) 0 0 in
-    let ga = attribute_is t names after tables.TypeDef Maker.Guid (guid_bytes id) i g in
-    let va = attribute_is t names b1 tables.TypeDef Maker.Version (le 4 version) j v in
-    let xa = attribute_is t names b2 tables.TypeDef Maker.ExclusiveTo (words_bytes owner) k x in
-    let more : List Attribute = an t names Maker.ExclusiveTo x b2 (words_bytes owner) k ∷ [] in
-    let attributes : List Attribute = an t names Maker.Guid g after (guid_bytes id) i ∷ an t names Maker.Version v b1 (le 4 version) j ∷ more in
+    let ga = attribute_is t names after tables.TypeDef Maker.Guid (id_argument id) i g in
+    let va = attribute_is t names b1 tables.TypeDef Maker.Version (number_argument version) j v in
+    let xa = attribute_is t names b2 tables.TypeDef Maker.ExclusiveTo (type_argument owner) k x in
+    let more : List Attribute = an t names Maker.ExclusiveTo x b2 (type_argument owner) k ∷ [] in
+    let attributes : List Attribute = an t names Maker.Guid g after (id_argument id) i ∷ an t names Maker.Version v b1 (number_argument version) j ∷ more in
     let no_version : of_word (codes "Version") more ≡ [] = rw x.typed refl in
     let no_guid : of_word (codes "Guid") more ≡ [] = rw x.typed refl in
     let read = methods_read names ds offset pre name version id (Some owner) us ms post h s attributes (version_among t names after b1 id version i j n g v more h.numbered_ no_version) (id_among t names after b1 id version i j n g v more h.id_fits no_guid) (one_owner t names after b1 b2 id version i j k n owner g v x h.owned_by.0 h.owned_by.1 h.owned_by.2) in

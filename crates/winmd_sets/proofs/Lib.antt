@@ -1,5 +1,5 @@
-pub mod Worked
 pub mod BlobLaws
+pub mod ArgumentLaws
 pub mod NameLaws
 pub mod ShapeLaws
 pub mod AttributeLaws
@@ -21,3 +21,5 @@ pub mod StructLaws
 pub mod WholeLaws
 pub mod FitLaws
 pub mod ReachLaws
+pub mod FittingSets
+pub mod Worked

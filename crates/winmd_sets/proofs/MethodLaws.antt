@@ -1,14 +1,13 @@
 -- Reading the rows of a method gives it.
-use Rattle.std.proofs.Common.{◌≡◌, ℕ, suc, ◌^◌, ◌<◌, ◌≤◌, Bool, true, false, cond, eqb, leb, List, [], ◌∷◌, ◌++◌, length, get_or, map, Ok, refl, sym, ap, ◌∙◌, append_assoc, length-append, arith, inl, inr}
+use Rattle.std.proofs.Common.{◌≡◌, ℕ, suc, ◌^◌, ◌<◌, ◌≤◌, Bool, true, false, cond, eqb, leb, List, [], ◌∷◌, ◌++◌, length, get_or, map, Ok, refl, sym, ap, ◌∙◌, arith, inl, inr}
 use Rattle.std.specs.Prelude.{◌||◌, not, bytes_eq}
 use Rattle.std.specs.List.{list_any, AllByRecursion}
 use Rattle.std.proofs.lemmas.Bool.{eq-eqb, ne_eqb, le-leb}
-use Rattle.std.proofs.lemmas.List.{append-nil, take_at, drop_at, length-map}
+use Rattle.std.proofs.lemmas.List.{append-nil, length-map}
 use Rattle.std.proofs.lemmas.Slice.Eq.{bytes_eq-Decides}
 use Rattle.md_schema.specs.declared.table.Table.{Table}
 use Rattle.md_schema.specs.declared.table.Table.TheVariants as tables
 use Rattle.wr_base.specs.Paths.{is_identifier}
-use Rattle.md_heaps.specs.Integers.{shortest}
 use Rattle.winmd_rows.specs.Faults.{each}
 use Rattle.winmd_rows.specs.Values.{Value, Offsets, stated_row}
 use Rattle.winmd_lines.specs.Lines.{Number, Words, Next, OfMethod, Line, line}
@@ -21,15 +20,16 @@ use Rattle.winmd_sets.specs.Attributes.{attributes_of, words_of}
 use Rattle.winmd_sets.specs.Methods.{sequenced, of_sequence, params_from, signature_of}
 use Rattle.winmd_sets.specs.Interfaces.{OfMethod as OfMethodRow, member_of, times}
 use Rattle.winmd_sets.specs.Rows.{all_lines}
-use Rattle.winmd_sets.specs.Values.{words_bytes}
 use Rattle.wr_base.specs.Trees.{DeclTree, ParamTree, SignatureTree, method}
 use Rattle.winmd_sets.proofs.AttributeLaws.{tables_of, MakerOk, Made, made, attribute_is, attributes_are}
-use Rattle.winmd_lines.proofs.IntegerLaws.{shortest_read}
 use Rattle.winmd_lines.proofs.LineLaws.{either, row_of, written-append, list_is}
 use Rattle.winmd_sets.proofs.ShapeLaws.{none_params, none_join, none_when}
 use Rattle.winmd_sets.proofs.BlobLaws.{SignatureOk, method_again}
 use Rattle.sig_blobs.specs.Canonical.{without_name}
 use Rattle.winmd_sets.proofs.TypeLaws.{none_written}
+use Rattle.winmd_sets.specs.Values.{words_argument}
+use Rattle.winmd_sets.proofs.ArgumentLaws.{words_read, identifier_utf8}
+use Rattle.std.specs.Str.{is_utf8}
 
 -- ---- parameters
 
@@ -88,12 +88,9 @@ params_read t offset k j (p ∷ ps) rows ok h =
 
 -- ---- a text in an attribute
 
-pub words_again : (t : Tables) (names : Names) (before : Counts) (table : Table) (words : List ℕ) (k : ℕ) (m : Maker) (c : Made t names m) → length words < 2 ^ 29
-    → words_of t (record { made = c.it; row = (k, row_of names before (attribute table m (words_bytes words))) }) ≡ Ok words
-words_again t names before table words k m c lt =
-    let e : (shortest (length words) ++ words) ++ 0 ∷ 0 ∷ [] ≡ shortest (length words) ++ (words ++ 0 ∷ 0 ∷ []) = append_assoc (shortest (length words)) words (0 ∷ 0 ∷ []) in
-    let all : leb (length words) (length (words ++ 0 ∷ 0 ∷ [])) ≡ true = le-leb _ _ (omega (arith, length-append words (0 ∷ 0 ∷ []))) in
-    rw (e, shortest_read (length words) (words ++ 0 ∷ 0 ∷ []) lt, drop_at (shortest (length words)) (words ++ 0 ∷ 0 ∷ []) (length (shortest (length words))) refl, all, take_at words (0 ∷ 0 ∷ []) (length words) refl) refl
+pub words_again : (t : Tables) (names : Names) (before : Counts) (table : Table) (words : List ℕ) (k : ℕ) (m : Maker) (c : Made t names m) → is_utf8 words ≡ true → length words < 2 ^ 29
+    → words_of t (record { made = c.it; row = (k, row_of names before (attribute table m (words_argument words))) }) ≡ Ok words
+words_again t names before table words k m c utf8 lt = words_read (at t tables.CustomAttribute k 2) words [] utf8 lt
 
 -- ---- a method
 
@@ -104,7 +101,7 @@ abbrev pub is_overload : List (List ℕ) → List ℕ → List ℕ → Bool
 is_overload earlier name abi = not (bytes_eq abi name) || list_any (bytes_eq name) earlier
 
 abbrev pub overload_line : List ℕ → Line
-overload_line abi = attribute tables.MethodDef Maker.Overload (words_bytes abi)
+overload_line abi = attribute tables.MethodDef Maker.Overload (words_argument abi)
 
 abbrev pub method_own : List (List ℕ) → List ℕ → List ℕ → SignatureTree → List Line
 method_own earlier name abi sig = param_lines 1 sig.params ++ when (is_overload earlier name abi) (overload_line abi ∷ [])
@@ -198,8 +195,8 @@ member_read names ds offset pre earlier name abi sig post h e c o a =
       | inl over ↦
           let m = made names ds offset Maker.Overload (h.overload_made over) in
           let k : ℕ = get_or found.0 0 0 in
-          let attribute_read = attribute_is t names then_ tables.MethodDef Maker.Overload (words_bytes abi) k m in
-          let words = words_again t names then_ tables.MethodDef abi k Maker.Overload m (let l = h.abi_short in omega (arith, l)) in
+          let attribute_read = attribute_is t names then_ tables.MethodDef Maker.Overload (words_argument abi) k m in
+          let words = words_again t names then_ tables.MethodDef abi k Maker.Overload m (identifier_utf8 abi h.abi_named) (let l = h.abi_short in omega (arith, l)) in
           let own_over : owned names after tables.CustomAttribute 0 tables.MethodDef (method_own earlier name abi sig) ≡ map (value_of names then_) (overload_line abi).cells ∷ [] = own_is ∙ rw over refl in
           let attributes : attributes_of t tables.MethodDef n ≡ Ok ((record { made = m.it; row = (k, row_of names then_ (overload_line abi)) }) ∷ []) = rw (found.1, own_over, attribute_read) refl in
           rw (h.named, short, attributes, m.typed, words, h.abi_named, abi_short, sig_is) refl

@@ -4,7 +4,6 @@ use Rattle.std.specs.Prelude.{◌||◌, not, bytes_eq, codes}
 use Rattle.std.specs.List.{list_any, flat_map, AllByRecursion}
 use Rattle.std.proofs.lemmas.Bool.{and_parts, eq-eqb}
 use Rattle.std.proofs.lemmas.Slice.Eq.{bytes_eq-Decides}
-use Rattle.md_bytes.specs.Bytes.{le}
 use Rattle.md_schema.specs.declared.table.Table.TheVariants as tables
 use Rattle.wr_base.specs.declared.type_use.Base.{Base}
 use Rattle.wr_base.specs.declared.type_use.Base.TheVariants.{Boolean, Char, U8, I16, U16, I32, U32, I64, U64, Text, Guid, Object}
@@ -41,7 +40,7 @@ use Rattle.winmd_sets.proofs.TypeLaws.{NameOk}
 use Rattle.winmd_sets.proofs.UsedLaws.{any_left, any_right, used_left, used_right, ref_used, maker_reached, used_in_set}
 use Rattle.winmd_sets.proofs.WholeLaws.{DeclOk, set_again}
 use Rattle.winmd_sets.proofs.BlobLaws.{Knows, IsPath, UseOk, SignatureOk}
-use Rattle.winmd_sets.proofs.FitLaws.{name_path, name_low, path_parts, name_parts, not_module, name_comma}
+use Rattle.winmd_sets.proofs.FitLaws.{name_path, name_low, path_parts, name_parts, not_module}
 use Rattle.winmd_sets.specs.Fits.{IsName, UseFits, UsesFit, CellFits, CaseFits, FieldFits, ParamFits, ResultFits, SignatureFits, MemberFits, OwnerFits, DeclFits, SetFits, FewNames, Fits, listed_default}
 use Rattle.winmd_sets.specs.Blobs.{meanings, paths_in, paths_among, paths_of_result}
 use Rattle.sig_blobs.specs.Canonical as canonical
@@ -49,6 +48,7 @@ use Rattle.wr_base.specs.Paths.{is_short_name}
 use Rattle.winmd_lines.specs.Names.{token_of}
 use Rattle.sig_blobs.specs.Templates.{suffix}
 use Rattle.std.specs.List.{list_all}
+use Rattle.winmd_sets.specs.Values.{number_argument}
 
 -- ---- uses and signatures by themselves
 
@@ -155,7 +155,7 @@ name_ok : (full : List ℕ) → IsName full → NameOk full
 name_ok full h = record { parts = name_parts full h; path = name_path full h; plain = not_module full h }
 
 name_fits : (full : List ℕ) → IsName full → NameFits full
-name_fits full h = (name_path full h, name_comma full h, name_low full h)
+name_fits full h = (name_path full h, h.path, name_low full h)
 
 names_fit : (fs : List (List ℕ)) → AllByRecursion IsName fs → AllByRecursion NameFits fs
 names_fit [] h = tt
@@ -434,7 +434,7 @@ all_types ds offset few (f ∷ fs) h = (type_reached ds offset few h.0.made, all
 
 owner_ok : (t : Tables) (names : Names) (owner : Option (List ℕ)) → OwnerFits owner → Known t names (owner_of_type owner) → OwnerOk names owner
 owner_ok t names None h k = tt
-owner_ok t names (Some owner) h k = (name_path owner h, name_comma owner h, name_low owner h, k.made Maker.ExclusiveTo refl)
+owner_ok t names (Some owner) h k = (name_path owner h, h.path, name_low owner h, k.made Maker.ExclusiveTo refl)
 
 one_ascends : (default : Option UseTree) (key : UseTree → ℕ) → Ascending key (listed_default default)
 one_ascends None key = tt
@@ -529,7 +529,7 @@ decl_ok front (class name version fixed default has direct factories statics) ba
     let k = decl_known front d back offset few in
     let two : List Line = own_line d ∷ version_of_type version ∷ [] in
     let hs : List Line = flat_map (class_interface default) has in
-    let di : List Line = when direct (attribute tables.TypeDef Maker.Activatable (le 4 version) ∷ []) in
+    let di : List Line = when direct (attribute tables.TypeDef Maker.Activatable (number_argument version) ∷ []) in
     let fa : List Line = map (named_attribute Maker.Factory version) factories in
     let st : List Line = map (named_attribute Maker.Static version) statics in
     let k1 = right_known t names two (hs ++ (di ++ (fa ++ st))) k in

@@ -4,7 +4,6 @@ use Rattle.std.specs.Prelude.{◌||◌, not, ⊤, codes}
 use Rattle.std.specs.List.{list_any, flat_map, AllByRecursion}
 use Rattle.std.specs.Str.{bytes_eq}
 use Rattle.std.proofs.lemmas.List.Concat.{flat_map-cons}
-use Rattle.md_bytes.specs.Bytes.{le}
 use Rattle.md_schema.specs.declared.table.Table.{Table}
 use Rattle.md_schema.specs.declared.table.Table.TheVariants as tables
 use Rattle.wr_base.specs.declared.declaration.Case.{Case}
@@ -14,8 +13,9 @@ use Rattle.winmd_lines.specs.Makers.{Maker}
 use Rattle.winmd_sets.specs.Members.{when, attribute, field_line, element, case_lines, struct_field, member_lines, members_lines, method_lines, signature_lines, accessor, getter, setter, adder, remover, map_line, map_lines, method_names, param_lines, is_property, is_event}
 use Rattle.winmd_lines.specs.Names.{is_in}
 use Rattle.winmd_lines.specs.Positions.{choose, NoneIn, Carries, Apart, AllOwned, last}
-use Rattle.winmd_sets.specs.Values.{guid_bytes, words_bytes}
 use Rattle.wr_base.specs.Trees.{DeclTree, UseTree, enum, struct, delegate, interface, class, FieldTree, MemberTree, method, property, event, ParamTree, SignatureTree, name_of}
+use Rattle.winmd_sets.specs.Values.{number_argument, words_argument, type_argument, id_argument}
+use Rattle.sig_blobs.specs.declared.argument.Argument.{Argument}
 
 abbrev pub property_line : List ℕ → UseTree → Line
 property_line name u = line tables.Property (Number 0 ∷ Words name ∷ OfProperty u ∷ [])
@@ -28,7 +28,7 @@ event_line name u = line tables.Event (Number 0 ∷ Words name ∷ Type_ u ∷ [
 pub record Pieces (P : List Line → Type 0) : Type 0 where
   pub nothing : P []
   pub join : (xs ys : List Line) → P xs → P ys → P (xs ++ ys)
-  pub attributed : (maker : Maker) (arguments : List ℕ) → P (attribute tables.TypeDef maker arguments ∷ [])
+  pub attributed : (maker : Maker) (arguments : List Argument) → P (attribute tables.TypeDef maker arguments ∷ [])
   pub holder : (signature : List ℕ) → P (field_line 0x0601 (codes "value__") (Bytes signature) ∷ [])
   pub any_ : (flags impl_flags : ℕ) (name : List ℕ) (signature : Drawn) (params : List ParamTree) → P (method_lines flags impl_flags name signature params)
   pub field_ : (f : FieldTree) → P (struct_field f ∷ [])
@@ -70,7 +70,7 @@ all_true (x ∷ xs) = (tt, all_true xs)
 
 of_owner : (P : List Line → Type 0) (p : Pieces P) (owner : Option (List ℕ)) → P (owner_of_type owner)
 of_owner P p None = p.nothing
-of_owner P p (Some name) = p.attributed Maker.ExclusiveTo _
+of_owner P p (Some name) = p.attributed Maker.ExclusiveTo (type_argument name)
 
 pub of_fields : (P : List Line → Type 0) (p : Pieces P) (fields : List FieldTree) → P (map struct_field fields)
 of_fields P p [] = p.nothing
@@ -85,7 +85,7 @@ of_has P p default us = of_flat P p (class_interface default) (λ u. ⊤) (λ u 
 
 of_named : (P : List Line → Type 0) (p : Pieces P) (maker : Maker) (version : ℕ) (names : List (List ℕ)) → P (map (named_attribute maker version) names)
 of_named P p maker version [] = p.nothing
-of_named P p maker version (n ∷ ns) = p.join (named_attribute maker version n ∷ []) (map (named_attribute maker version) ns) (p.attributed maker (words_bytes n ++ le 4 version)) (of_named P p maker version ns)
+of_named P p maker version (n ∷ ns) = p.join (named_attribute maker version n ∷ []) (map (named_attribute maker version) ns) (p.attributed maker (type_argument n ++ number_argument version)) (of_named P p maker version ns)
 
 of_maps : (P : List Line → Type 0) (p : Pieces P) (members : List MemberTree) → P (map_lines members)
 of_maps P p members = p.join (when (list_any is_property members) (map_line tables.PropertyMap tables.Property ∷ [])) _ (of_when P p (list_any is_property members) _ p.properties) (of_when P p (list_any is_event members) _ p.events)
@@ -93,26 +93,26 @@ of_maps P p members = p.join (when (list_any is_property members) (map_line tabl
 pub of_body : (P : List Line → Type 0) (p : Pieces P) (d : DeclTree) → P (body_lines d)
 of_body P p (enum name version flags cases) =
     p.join (when flags (attribute tables.TypeDef Maker.Flags [] ∷ [])) _ (of_when P p flags _ (p.attributed Maker.Flags []))
-    (p.join (attribute tables.TypeDef Maker.Version (le 4 version) ∷ []) _ (p.attributed Maker.Version (le 4 version))
+    (p.join (attribute tables.TypeDef Maker.Version (number_argument version) ∷ []) _ (p.attributed Maker.Version (number_argument version))
     (p.join (field_line 0x0601 (codes "value__") (Bytes (0x06 ∷ element flags ∷ [])) ∷ []) _ (p.holder (0x06 ∷ element flags ∷ []))
     (of_flat P p (case_lines name flags) (λ c. ⊤) (λ c t. p.case_ name flags c) cases (all_true cases))))
 of_body P p (interface name version id owner requires_ members) =
-    p.join (attribute tables.TypeDef Maker.Guid (guid_bytes id) ∷ []) _ (p.attributed Maker.Guid (guid_bytes id))
-    (p.join (attribute tables.TypeDef Maker.Version (le 4 version) ∷ []) _ (p.attributed Maker.Version (le 4 version))
+    p.join (attribute tables.TypeDef Maker.Guid (id_argument id) ∷ []) _ (p.attributed Maker.Guid (id_argument id))
+    (p.join (attribute tables.TypeDef Maker.Version (number_argument version) ∷ []) _ (p.attributed Maker.Version (number_argument version))
     (p.join (owner_of_type owner) _ (of_owner P p owner)
     (p.join (map interface_line requires_) _ (of_requires P p requires_)
     (p.join (map_lines members) _ (of_maps P p members) (of_members P p [] members)))))
 of_body P p (struct name version fields) =
-    p.join (attribute tables.TypeDef Maker.Version (le 4 version) ∷ []) _ (p.attributed Maker.Version (le 4 version)) (of_fields P p fields)
+    p.join (attribute tables.TypeDef Maker.Version (number_argument version) ∷ []) _ (p.attributed Maker.Version (number_argument version)) (of_fields P p fields)
 of_body P p (delegate name version id invoke) =
-    p.join (attribute tables.TypeDef Maker.Guid (guid_bytes id) ∷ []) _ (p.attributed Maker.Guid (guid_bytes id))
-    (p.join (attribute tables.TypeDef Maker.Version (le 4 version) ∷ []) _ (p.attributed Maker.Version (le 4 version))
+    p.join (attribute tables.TypeDef Maker.Guid (id_argument id) ∷ []) _ (p.attributed Maker.Guid (id_argument id))
+    (p.join (attribute tables.TypeDef Maker.Version (number_argument version) ∷ []) _ (p.attributed Maker.Version (number_argument version))
     (p.join (method_lines 0x1881 3 (codes ".ctor") (Bytes (0x20 ∷ 2 ∷ 0x01 ∷ 0x1C ∷ 0x18 ∷ [])) []) (signature_lines 0x09C6 3 (codes "Invoke") invoke)
     (p.any_ 0x1881 3 (codes ".ctor") (Bytes (0x20 ∷ 2 ∷ 0x01 ∷ 0x1C ∷ 0x18 ∷ [])) []) (p.any_ 0x09C6 3 (codes "Invoke") (OfMethod invoke) invoke.params)))
 of_body P p (class name version fixed default has direct factories statics) =
-    p.join (attribute tables.TypeDef Maker.Version (le 4 version) ∷ []) _ (p.attributed Maker.Version (le 4 version))
+    p.join (attribute tables.TypeDef Maker.Version (number_argument version) ∷ []) _ (p.attributed Maker.Version (number_argument version))
     (p.join (flat_map (class_interface default) has) _ (of_has P p default has)
-    (p.join (when direct (attribute tables.TypeDef Maker.Activatable (le 4 version) ∷ [])) _ (of_when P p direct _ (p.attributed Maker.Activatable (le 4 version)))
+    (p.join (when direct (attribute tables.TypeDef Maker.Activatable (number_argument version) ∷ [])) _ (of_when P p direct _ (p.attributed Maker.Activatable (number_argument version)))
     (p.join (map (named_attribute Maker.Factory version) factories) _ (of_named P p Maker.Factory version factories) (of_named P p Maker.Static version statics))))
 
 -- and of a declaration's own row
@@ -160,8 +160,8 @@ none_when table false lines h = tt
 pub none_method : (table : Table) → is_in table (line tables.CustomAttribute []) ≡ false → is_in table (line tables.MethodDef []) ≡ false → is_in table (line tables.Param []) ≡ false → (earlier : List (List ℕ)) (name abi : List ℕ) (sig : SignatureTree)
     → NoneIn table (member_lines earlier (method name abi sig))
 none_method table attribute_ method_ param_ earlier name abi sig =
-    none_join table (signature_lines 0x05C6 0 name sig) (when (not (bytes_eq abi name) || list_any (bytes_eq name) earlier) (attribute tables.MethodDef Maker.Overload (words_bytes abi) ∷ []))
-    (method_, none_params table param_ 1 sig.params) (none_when table (not (bytes_eq abi name) || list_any (bytes_eq name) earlier) (attribute tables.MethodDef Maker.Overload (words_bytes abi) ∷ []) (attribute_, tt))
+    none_join table (signature_lines 0x05C6 0 name sig) (when (not (bytes_eq abi name) || list_any (bytes_eq name) earlier) (attribute tables.MethodDef Maker.Overload (words_argument abi) ∷ []))
+    (method_, none_params table param_ 1 sig.params) (none_when table (not (bytes_eq abi name) || list_any (bytes_eq name) earlier) (attribute tables.MethodDef Maker.Overload (words_argument abi) ∷ []) (attribute_, tt))
 
 pub none_accessor : (table : Table) → is_in table (line tables.MethodDef []) ≡ false → is_in table (line tables.Param []) ≡ false → is_in table (line tables.MethodSemantics []) ≡ false → (kind : Table) (meaning : ℕ) (name : List ℕ) (sig : SignatureTree) → NoneIn table (accessor kind meaning name sig)
 none_accessor table method_ param_ semantics kind meaning name sig =
@@ -209,7 +209,7 @@ carries_when table column member true ls h = h
 carries_when table column member false ls h = tt
 
 overload_lines : List (List ℕ) → List ℕ → List ℕ → List Line
-overload_lines earlier name abi = when (not (bytes_eq abi name) || list_any (bytes_eq name) earlier) (attribute tables.MethodDef Maker.Overload (words_bytes abi) ∷ [])
+overload_lines earlier name abi = when (not (bytes_eq abi name) || list_any (bytes_eq name) earlier) (attribute tables.MethodDef Maker.Overload (words_argument abi) ∷ [])
 
 pub attributes_owned : Pieces (AllOwned tables.CustomAttribute 0)
 unfolding overload_lines
@@ -235,7 +235,7 @@ attributes_owned = record {
     default_owned true = (last tables.InterfaceImpl, tt)
     default_owned false = tt
 
-    when_owned : (test : Bool) (abi : List ℕ) → AllOwned tables.CustomAttribute 0 (when test (attribute tables.MethodDef Maker.Overload (words_bytes abi) ∷ []))
+    when_owned : (test : Bool) (abi : List ℕ) → AllOwned tables.CustomAttribute 0 (when test (attribute tables.MethodDef Maker.Overload (words_argument abi) ∷ []))
     when_owned true abi = (last tables.MethodDef, tt)
     when_owned false abi = tt
 
@@ -383,7 +383,7 @@ defaults_apart = record {
   field_ = λ f. (refl, tt);
   case_ = λ name flags c. (refl, (refl, tt));
   method_ = λ earlier name abi sig. apart_join tables.CustomAttribute 0 tables.InterfaceImpl (signature_lines 0x05C6 0 name sig) (overload_lines earlier name abi)
-      (refl, apart_of_none tables.CustomAttribute 0 tables.InterfaceImpl (param_lines 1 sig.params) (none_params tables.CustomAttribute refl 1 sig.params)) (apart_when tables.CustomAttribute 0 tables.InterfaceImpl (not (bytes_eq abi name) || list_any (bytes_eq name) earlier) (attribute tables.MethodDef Maker.Overload (words_bytes abi) ∷ []) (refl, tt));
+      (refl, apart_of_none tables.CustomAttribute 0 tables.InterfaceImpl (param_lines 1 sig.params) (none_params tables.CustomAttribute refl 1 sig.params)) (apart_when tables.CustomAttribute 0 tables.InterfaceImpl (not (bytes_eq abi name) || list_any (bytes_eq name) earlier) (attribute tables.MethodDef Maker.Overload (words_argument abi) ∷ []) (refl, tt));
   accessor_ = λ kind meaning name sig. apart_of_none tables.CustomAttribute 0 tables.InterfaceImpl (accessor kind meaning name sig) (none_accessor tables.CustomAttribute refl refl refl kind meaning name sig);
   property_ = λ name u. (refl, tt);
   event_ = λ name u. (refl, tt);

@@ -4,7 +4,6 @@ use Rattle.std.specs.Prelude.{◌==◌, bytes_eq, codes}
 use Rattle.std.specs.List.{list_any, AllByRecursion}
 use Rattle.std.proofs.Math.Dec.{eqb-suc-zero}
 use Rattle.std.proofs.lemmas.Bool.{le-leb}
-use Rattle.md_bytes.specs.Bytes.{le}
 use Rattle.md_schema.specs.declared.table.Table.TheVariants as tables
 use Rattle.wr_base.specs.Paths.{is_identifier}
 use Rattle.winmd_rows.specs.Faults.{each}
@@ -26,6 +25,7 @@ use Rattle.winmd_lines.proofs.LineLaws.{row_of, list_is}
 use Rattle.winmd_sets.proofs.BlobLaws.{field_again}
 use Rattle.winmd_sets.proofs.TypeLaws.{Stands_, NameOk, base_read, none_written, version_read}
 use Rattle.winmd_sets.proofs.BlobLaws.{UseOk}
+use Rattle.winmd_sets.specs.Values.{number_argument}
 
 pub record FieldOk (t : Tables) (names : Names) (f : FieldTree) : Type 0 where
   pub named : is_identifier f.name ≡ true
@@ -69,7 +69,7 @@ struct_type names ds offset pre name version fs post h s =
     let none_more = owned_fields names (behind after (version_of_type version)) fs in
     let c = made names ds offset Maker.Version h.version_made in
     let k : ℕ = get_or found.0 0 0 in
-    let va = attribute_is t names after tables.TypeDef Maker.Version (le 4 version) k c in
+    let va = attribute_is t names after tables.TypeDef Maker.Version (number_argument version) k c in
     let v = version_read t names after version k n c h.numbered_ in
     let list = list_is t names (all_lines names ds) pre (own_line d) (body_lines d) post tables.TypeDef 4 tables.Field (record { is = refl }) (record { is = refl }) s.split refl refl refl s.alone s.fields_next in
     let fields = fields_read t names (behind after (version_of_type version)) (suc (before tables.Field)) fs h.fields in

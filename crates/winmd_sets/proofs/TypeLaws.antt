@@ -4,8 +4,6 @@ use Rattle.std.specs.Prelude.{◌==◌, bytes_eq, codes}
 use Rattle.std.specs.List.{flat_map, list_any, AllByRecursion}
 use Rattle.std.proofs.Math.Dec.{eqb-suc-zero}
 use Rattle.std.proofs.lemmas.Bool.{le-leb}
-use Rattle.md_bytes.specs.Bytes.{le}
-use Rattle.md_bytes.proofs.NumberLemmas.{number-le}
 use Rattle.md_schema.specs.declared.table.Table.{Table}
 use Rattle.md_schema.specs.declared.table.Table.TheVariants as tables
 use Rattle.wr_base.specs.Parts.{behind_last}
@@ -28,6 +26,8 @@ use Rattle.winmd_lines.proofs.LineLaws.{row_of}
 use Rattle.winmd_sets.proofs.NameLaws.{TwoParts, ref_named}
 use Rattle.winmd_lines.proofs.OwnerLaws.{no_rows}
 use Rattle.winmd_sets.proofs.BlobLaws.{IsPath}
+use Rattle.winmd_sets.specs.Values.{number_argument}
+use Rattle.winmd_sets.proofs.ArgumentLaws.{number_read}
 
 -- ---- what holds of each declaration that can be written
 
@@ -69,12 +69,12 @@ owned_cases names before name flags (c ∷ cs) = owned_cases names (behind_all b
 
 -- the version among attributes
 pub version_read : (t : Tables) (names : Names) (before : Counts) (version k n : ℕ) (c : Made t names Maker.Version) → version < 2 ^ 32
-    → version_of t n ((record { made = c.it; row = (k, row_of names before (attribute tables.TypeDef Maker.Version (le 4 version))) }) ∷ []) ≡ Ok version
-version_read t names before version k n c v = rw (c.typed, number-le 4 version v) refl
+    → version_of t n ((record { made = c.it; row = (k, row_of names before (attribute tables.TypeDef Maker.Version (number_argument version))) }) ∷ []) ≡ Ok version
+version_read t names before version k n c v = rw c.typed (number_read (at t tables.CustomAttribute k 2) version [] v)
 
 flags_and_version : (t : Tables) (names : Names) (before after : Counts) (version k j n : ℕ) (f : Made t names Maker.Flags) (c : Made t names Maker.Version) → version < 2 ^ 32
-    → version_of t n ((record { made = f.it; row = (j, row_of names before (attribute tables.TypeDef Maker.Flags [])) }) ∷ (record { made = c.it; row = (k, row_of names after (attribute tables.TypeDef Maker.Version (le 4 version))) }) ∷ []) ≡ Ok version
-flags_and_version t names before after version k j n f c v = rw (f.typed, c.typed, number-le 4 version v) refl
+    → version_of t n ((record { made = f.it; row = (j, row_of names before (attribute tables.TypeDef Maker.Flags [])) }) ∷ (record { made = c.it; row = (k, row_of names after (attribute tables.TypeDef Maker.Version (number_argument version))) }) ∷ []) ≡ Ok version
+flags_and_version t names before after version k j n f c v = rw (f.typed, c.typed) (number_read (at t tables.CustomAttribute k 2) version [] v)
 
 pub record EnumOk (names : Names) (name : List ℕ) (version : ℕ) (flags : Bool) (cs : List Case) : Type 0 where
   pub named : NameOk name
@@ -99,14 +99,14 @@ enum_type names ds offset pre name version true cs post h s =
     let inner = no_rows t tables.NestedClass 0 tables.TypeDef n (ap (map stated_row) (none_written names none (all_lines names ds) tables.NestedClass s.nested)) in
     let found = attributes_are names ds offset pre (own_line d) (body_lines d) post tables.TypeDef (record { is = refl }) s.split refl refl s.attributes_owned s.alone s.attributes_next in
     let fl = attribute tables.TypeDef Maker.Flags [] in
-    let ve = attribute tables.TypeDef Maker.Version (le 4 version) in
+    let ve = attribute tables.TypeDef Maker.Version (number_argument version) in
     let none_more = owned_cases names (behind_all after (enum_head version true)) name true cs in
     let f = made names ds offset Maker.Flags (h.flags_made refl) in
     let c = made names ds offset Maker.Version h.version_made in
     let j : ℕ = get_or found.0 0 0 in
     let k : ℕ = get_or (drop 1 found.0) 0 0 in
     let fa = attribute_is t names after tables.TypeDef Maker.Flags [] j f in
-    let va = attribute_is t names (behind after fl) tables.TypeDef Maker.Version (le 4 version) k c in
+    let va = attribute_is t names (behind after fl) tables.TypeDef Maker.Version (number_argument version) k c in
     let v = flags_and_version t names after (behind after fl) version k j n f c h.numbered in
     let attributes : List Attribute = (record { made = f.it; row = (j, row_of names after fl) }) ∷ (record { made = c.it; row = (k, row_of names (behind after fl) ve) }) ∷ [] in
     let read = enum_read names ds offset pre name version true cs post attributes s.split s.alone s.fields_next h.cases s.constants_owned s.constants_next v in
@@ -122,11 +122,11 @@ enum_type names ds offset pre name version false cs post h s =
     let some : (suc (place (bytes_eq (codes "System.Enum")) names.refs) == 0) ≡ false = eqb-suc-zero (place (bytes_eq (codes "System.Enum")) names.refs) in
     let inner = no_rows t tables.NestedClass 0 tables.TypeDef n (ap (map stated_row) (none_written names none (all_lines names ds) tables.NestedClass s.nested)) in
     let found = attributes_are names ds offset pre (own_line d) (body_lines d) post tables.TypeDef (record { is = refl }) s.split refl refl s.attributes_owned s.alone s.attributes_next in
-    let ve = attribute tables.TypeDef Maker.Version (le 4 version) in
+    let ve = attribute tables.TypeDef Maker.Version (number_argument version) in
     let none_more = owned_cases names (behind_all after (enum_head version false)) name false cs in
     let c = made names ds offset Maker.Version h.version_made in
     let k : ℕ = get_or found.0 0 0 in
-    let va = attribute_is t names after tables.TypeDef Maker.Version (le 4 version) k c in
+    let va = attribute_is t names after tables.TypeDef Maker.Version (number_argument version) k c in
     let v = version_read t names after version k n c h.numbered in
     let attributes : List Attribute = (record { made = c.it; row = (k, row_of names after ve) }) ∷ [] in
     let read = enum_read names ds offset pre name version false cs post attributes s.split s.alone s.fields_next h.cases s.constants_owned s.constants_next v in

@@ -1,16 +1,19 @@
 -- The attributes of a row, and what they say (ECMA-335 II.22.10, II.23.3). Named arguments and what stands behind the wanted ones are passed over.
-use Rattle.std.specs.Prelude.{ℕ, ◌+◌, ◌*◌, ◌^◌, ◌==◌, nat_le, bytes_eq, codes, Bool, List, [], ◌∷◌, length, take, drop, Option, Some, None, Result, Ok, Err, if◌then◌else◌}
+use Rattle.std.specs.Prelude.{ℕ, nat_le, bytes_eq, codes, Bool, List, [], ◌∷◌, length, Option, Some, None, Result, Ok, Err}
 use Rattle.std.specs.List.{filter}
 use Rattle.md_schema.specs.declared.table.Table.{Table}
 use Rattle.md_schema.specs.declared.table.Table.TheVariants as tables
 use Rattle.md_schema.specs.declared.faults.ImageKind.TheVariants.{BadShape, MissingAttribute}
-use Rattle.md_bytes.specs.Bytes.{number}
 use Rattle.md_schema.specs.declared.faults.ImageFault.{ImageFault}
-use Rattle.winmd_rows.specs.Faults.{Fault, fault, ◌>>=◌, each, checked}
-use Rattle.md_heaps.specs.Integers.{compressed_of}
+use Rattle.winmd_rows.specs.Faults.{Fault, fault, ◌>>=◌, each}
 use Rattle.winmd_rows.specs.Values.{Value, To}
 use Rattle.winmd_lines.specs.Makers.{metadata}
 use Rattle.winmd_lines.specs.Cells.{Row, Numbered, Tables, at, as_row, cell, bytes_in, passes, rows_of_owner, row_at, path_of, named_at}
+use Rattle.sig_blobs.specs.Attributes.{first_argument}
+use Rattle.sig_blobs.specs.declared.argument.Argument.{Argument}
+use Rattle.sig_blobs.specs.declared.argument.Argument.TheVariants as arguments
+use Rattle.sig_blobs.specs.declared.argument.ArgumentKind.{ArgumentKind}
+use Rattle.sig_blobs.specs.declared.argument.ArgumentKind.TheVariants as kinds
 
 -- ---- attributes: the full name of its type, where its constructor's signature stands, and its row
 
@@ -66,62 +69,49 @@ at_most_one offset [] = Ok None
 at_most_one offset (x ∷ []) = Ok (Some x)
 at_most_one offset (x ∷ y ∷ xs) = fault BadShape offset
 
--- ---- values of attributes (II.23.3): behind 1 and 0 the arguments, of which those behind the wanted ones are passed over
+-- ---- values of attributes (II.23.3): the first argument; those behind it are passed over
 
 abbrev pub value_at : Tables → Attribute → ℕ
 value_at t attribute = at t tables.CustomAttribute attribute.row.0 2
 
-abbrev pub arguments_in : ℕ → List ℕ → Result (List ℕ) Fault
-arguments_in offset value = if bytes_eq (take 2 value) (1 ∷ 0 ∷ []) then Ok (drop 2 value) else fault BadShape offset
+-- a fault of a value stands at its cell
+abbrev pub placed_at : ℕ → Result Argument ImageFault → Result Argument Fault
+placed_at offset (Ok argument) = Ok argument
+placed_at offset (Err e) = fault e.kind offset
 
-abbrev pub arguments_of : Tables → Attribute → Result (List ℕ) Fault
-arguments_of t attribute = bytes_in attribute.row.1 2 >>= λ value. arguments_in (value_at t attribute) value
+abbrev pub argument_of : Tables → ArgumentKind → Attribute → Result Argument Fault
+argument_of t kind attribute = bytes_in attribute.row.1 2 >>= λ value. placed_at (value_at t attribute) (first_argument kind value)
 
--- so many bytes
-abbrev pub bytes_of : Tables → ℕ → Attribute → Result (List ℕ) Fault
-bytes_of t size attribute = do
-  bytes ← arguments_of t attribute
-  all ← checked (nat_le size (length bytes)) BadShape (value_at t attribute)
-  Ok (take size bytes)
+abbrev pub number_of : Argument → ℕ
+number_of (arguments.Number n) = n
+number_of _ = 0
 
-abbrev pub first_bytes : ℕ → ℕ → List ℕ → Result (List ℕ) Fault
-first_bytes offset count bytes = if nat_le count (length bytes) then Ok (take count bytes) else fault BadShape offset
+abbrev pub id_number : Argument → ℕ
+id_number (arguments.Id id) = id
+id_number _ = 0
 
-abbrev pub words_behind : ℕ → List ℕ → Result (ℕ × ℕ) ImageFault → Result (List ℕ) Fault
-words_behind offset bytes (Ok (count, size)) = first_bytes offset count (drop size bytes)
-words_behind offset bytes (Err e) = fault BadShape offset
+abbrev pub text_of : Argument → List ℕ
+text_of (arguments.Words text) = text
+text_of (arguments.TypeName name) = name
+text_of _ = []
 
--- a text behind its length
 abbrev pub words_of : Tables → Attribute → Result (List ℕ) Fault
-words_of t attribute = arguments_of t attribute >>= λ bytes. words_behind (value_at t attribute) bytes (compressed_of bytes)
-
--- a serialized type name ends at its first comma
-abbrev pub to_comma : List ℕ → List ℕ
-to_comma [] = []
-to_comma (b ∷ bytes) = if b == 44 then [] else b ∷ to_comma bytes
+words_of t attribute = argument_of t kinds.Words attribute >>= λ argument. Ok (text_of argument)
 
 abbrev pub type_name_of : Tables → Attribute → Result (List ℕ) Fault
-type_name_of t attribute = words_of t attribute >>= λ words. path_of (value_at t attribute) (to_comma words)
-
--- the number of a Guid: three parts with the lowest byte first, and eight bytes as they stand (RFC 9562 section 4)
-abbrev pub high_first : List ℕ → ℕ
-high_first [] = 0
-high_first (b ∷ bytes) = b * 256 ^ length bytes + high_first bytes
-
-abbrev pub guid_of : List ℕ → ℕ
-guid_of bytes = number (take 4 bytes) * 2 ^ 96 + number (take 2 (drop 4 bytes)) * 2 ^ 80 + number (take 2 (drop 6 bytes)) * 2 ^ 64 + high_first (drop 8 bytes)
+type_name_of t attribute = argument_of t kinds.TypeName attribute >>= λ argument. path_of (value_at t attribute) (text_of argument)
 
 -- 1 where there is none
 abbrev pub version_or : Tables → Option Attribute → Result ℕ Fault
 version_or t None = Ok 1
-version_or t (Some attribute) = bytes_of t 4 attribute >>= λ bytes. Ok (number bytes)
+version_or t (Some attribute) = argument_of t kinds.Number attribute >>= λ argument. Ok (number_of argument)
 
 abbrev pub version_of : Tables → ℕ → List Attribute → Result ℕ Fault
 version_of t n attributes = at_most_one (at t tables.TypeDef n 0) (of_word (codes "Version") attributes) >>= λ found. version_or t found
 
 abbrev pub id_or : Tables → ℕ → Option Attribute → Result ℕ Fault
 id_or t n None = fault MissingAttribute (at t tables.TypeDef n 0)
-id_or t n (Some attribute) = bytes_of t 16 attribute >>= λ bytes. Ok (guid_of bytes)
+id_or t n (Some attribute) = argument_of t kinds.Id attribute >>= λ argument. Ok (id_number argument)
 
 abbrev pub id_of : Tables → ℕ → List Attribute → Result ℕ Fault
 id_of t n attributes = at_most_one (at t tables.TypeDef n 0) (of_word (codes "Guid") attributes) >>= λ found. id_or t n found

@@ -2,14 +2,13 @@
 use Rattle.std.specs.Prelude.{ℕ, Bool, false, List, [], ◌∷◌, ◌++◌, map, codes, Option, Some, None, if◌then◌else◌}
 use Rattle.std.specs.List.{flat_map}
 use Rattle.std.specs.Option.{option_map_or}
-use Rattle.md_bytes.specs.Bytes.{le}
 use Rattle.md_schema.specs.declared.table.Table.TheVariants as tables
 use Rattle.wr_base.specs.Parts.{behind_last, before_last}
 use Rattle.winmd_lines.specs.Lines.{Drawn, Number, Words, Bytes, Guid, To, Last, Next, Type_, Line, line}
 use Rattle.winmd_lines.specs.Makers.{Maker}
 use Rattle.winmd_sets.specs.Members.{when, attribute, method_lines, signature_lines, field_line, element, case_lines, struct_field, map_lines, members_lines}
-use Rattle.winmd_sets.specs.Values.{guid_bytes, words_bytes}
 use Rattle.wr_base.specs.Trees.{UseTree, reference, same_use, DeclTree, enum, struct, delegate, interface, class, name_of}
+use Rattle.winmd_sets.specs.Values.{number_argument, type_argument, id_argument}
 
 -- flags, name, namespace and base of a type whose fields and methods come next (II.22.37)
 abbrev pub type_line : ℕ → List ℕ → List ℕ → Drawn → Line
@@ -22,18 +21,18 @@ abbrev pub system : List ℕ → Drawn
 system name = Type_ (reference (codes "System." ++ name))
 
 abbrev pub version_of_type : ℕ → Line
-version_of_type version = attribute tables.TypeDef Maker.Version (le 4 version)
+version_of_type version = attribute tables.TypeDef Maker.Version (number_argument version)
 
 abbrev pub id_of_type : ℕ → Line
-id_of_type id = attribute tables.TypeDef Maker.Guid (guid_bytes id)
+id_of_type id = attribute tables.TypeDef Maker.Guid (id_argument id)
 
 abbrev pub owner_of_type : Option (List ℕ) → List Line
 owner_of_type None = []
-owner_of_type (Some owner) = attribute tables.TypeDef Maker.ExclusiveTo (words_bytes owner) ∷ []
+owner_of_type (Some owner) = attribute tables.TypeDef Maker.ExclusiveTo (type_argument owner) ∷ []
 
 -- an attribute with a type's name and the version
 abbrev pub named_attribute : Maker → ℕ → List ℕ → Line
-named_attribute maker version name = attribute tables.TypeDef maker (words_bytes name ++ le 4 version)
+named_attribute maker version name = attribute tables.TypeDef maker (type_argument name ++ number_argument version)
 
 -- an interface of the last type (II.22.23)
 abbrev pub interface_line : UseTree → Line
@@ -81,7 +80,7 @@ body_lines (interface name version id owner requires_ members) =
 body_lines (class name version fixed default has direct factories statics) =
     version_of_type version
     ∷ (flat_map (class_interface default) has
-    ++ (when direct (attribute tables.TypeDef Maker.Activatable (le 4 version) ∷ [])
+    ++ (when direct (attribute tables.TypeDef Maker.Activatable (number_argument version) ∷ [])
     ++ (map (named_attribute Maker.Factory version) factories
     ++ map (named_attribute Maker.Static version) statics)))
 

@@ -9,14 +9,16 @@ use Rattle.wr_base.specs.declared.declaration.Case.{Case}
 use Rattle.winmd_rows.specs.Types.{bits_of_int}
 use Rattle.winmd_lines.specs.Lines.{Drawn, Number, Words, Bytes, Last, Next, Type_, MadeBy, OfField, OfProperty, OfMethod, Line, line}
 use Rattle.winmd_lines.specs.Makers.{Maker}
-use Rattle.winmd_sets.specs.Values.{value_bytes, words_bytes}
 use Rattle.wr_base.specs.Trees.{UseTree, value, ParamTree, SignatureTree, FieldTree, MemberTree, method, property, event}
+use Rattle.winmd_sets.specs.Values.{words_argument}
+use Rattle.sig_blobs.specs.Attributes.{value_bytes}
+use Rattle.sig_blobs.specs.declared.argument.Argument.{Argument}
 
 abbrev pub when : Bool → List Line → List Line
 when test lines = if test then lines else []
 
 -- an attribute of the last row of a table
-abbrev pub attribute : Table → Maker → List ℕ → Line
+abbrev pub attribute : Table → Maker → List Argument → Line
 attribute table maker arguments = line tables.CustomAttribute (Last table ∷ MadeBy maker ∷ Bytes (value_bytes arguments) ∷ [])
 
 -- ---- methods
@@ -83,7 +85,7 @@ accessor table meaning name sig =
 abbrev pub member_lines : List (List ℕ) → MemberTree → List Line
 member_lines earlier (method name abi sig) =
     signature_lines 0x05C6 0 name sig
-    ++ when (not (bytes_eq abi name) || list_any (bytes_eq name) earlier) (attribute tables.MethodDef Maker.Overload (words_bytes abi) ∷ [])
+    ++ when (not (bytes_eq abi name) || list_any (bytes_eq name) earlier) (attribute tables.MethodDef Maker.Overload (words_argument abi) ∷ [])
 member_lines earlier (property name type_ put) =
     line tables.Property (Number 0 ∷ Words name ∷ OfProperty type_ ∷ [])
     ∷ accessor tables.Property 2 (codes "get_" ++ name) (getter type_)

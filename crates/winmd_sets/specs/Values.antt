@@ -1,20 +1,16 @@
--- Values of attributes, as they are written (ECMA-335 II.23.3): 1 and 0, the arguments, and no named ones.
-use Rattle.std.specs.Prelude.{ℕ, zero, suc, ◌/◌, ◌%◌, ◌^◌, List, [], ◌∷◌, ◌++◌, length}
-use Rattle.md_bytes.specs.Bytes.{le}
-use Rattle.md_heaps.specs.Integers.{shortest}
+-- Arguments of the attributes that are written (ECMA-335 II.23.3).
+use Rattle.std.specs.Prelude.{ℕ, List, [], ◌∷◌}
+use Rattle.sig_blobs.specs.declared.argument.Argument.{Argument}
+use Rattle.sig_blobs.specs.declared.argument.Argument.TheVariants.{Number, Words, TypeName, Id}
 
--- a text behind its length
-abbrev pub words_bytes : List ℕ → List ℕ
-words_bytes text = shortest (length text) ++ text
+abbrev pub number_argument : ℕ → List Argument
+number_argument n = Number n ∷ []
 
--- a number in so many bytes, the highest first
-abbrev pub be : ℕ → ℕ → List ℕ
-be zero n = []
-be (suc width) n = (n / 256 ^ width % 256) ∷ be width n
+abbrev pub words_argument : List ℕ → List Argument
+words_argument text = Words text ∷ []
 
--- the four parts of a Guid (RFC 9562 section 4)
-abbrev pub guid_bytes : ℕ → List ℕ
-guid_bytes id = le 4 (id / 2 ^ 96) ++ le 2 (id / 2 ^ 80 % 2 ^ 16) ++ le 2 (id / 2 ^ 64 % 2 ^ 16) ++ be 8 (id % 2 ^ 64)
+abbrev pub type_argument : List ℕ → List Argument
+type_argument name = TypeName name ∷ []
 
-abbrev pub value_bytes : List ℕ → List ℕ
-value_bytes arguments = 1 ∷ 0 ∷ arguments ++ 0 ∷ 0 ∷ []
+abbrev pub id_argument : ℕ → List Argument
+id_argument id = Id id ∷ []
