@@ -9,8 +9,6 @@ mod memory;
 mod named_files;
 mod outside;
 mod safe;
-#[cfg(test)]
-mod tests;
 mod whole;
 
 pub use failures::Failures;

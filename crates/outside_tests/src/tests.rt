@@ -1,70 +1,10 @@
 ghost use Rattle.std.specs.Prelude.{None};
 
-use super::*;
 use std::alloc::{AllocError, Global};
 use std::test::Fail;
-
-// A store of the file `a` with the bytes `abc`, in which the call of this number fails.
-fn store_of_a(alloc: Global, failing: u64) -> Result<MemoryStore, AllocError> {
-    let content = Vec::from_slice(alloc, b"abc")?;
-    let listed = Vec::from_slice(alloc, &[failing, failing])?;
-    let mut files = NamedFiles::new(alloc);
-    files.insert(alloc, "a", content)?;
-    Ok(MemoryStore::new(alloc, files, listed))
-}
-
-fn holds(files: &NamedFiles, name: &str, text: &str) -> bool {
-    match files.get(name) {
-        Some(bytes) => bytes == text.as_bytes(),
-        None => false,
-    }
-}
-
-// Which of six calls fail.
-fn failing_calls(store: &mut MemoryStore) -> [bool; 6] {
-    let mut into = [0; 4];
-    [
-        store.size("a").is_err(),
-        store.read_at("a", 1, &mut into).is_err(),
-        store.read_at("b", 0, &mut into).is_err(),
-        store.create("a").is_err(),
-        store.append("a", b"x").is_err(),
-        store.append("b", b"yz").is_err(),
-    ]
-}
-
-#[test]
-fn each_call_of_the_store_fails_once(rt: HostRuntime) -> Result<(), Fail> {
-    // The number of the call that fails, and what the files hold then.
-    let rows = [
-        (0, None, "x", "yz"),
-        (1, Some(0), "x", "yz"),
-        (2, Some(1), "x", "yz"),
-        (3, Some(2), "x", "yz"),
-        (4, Some(3), "abcx", "yz"),
-        (5, Some(4), "", "yz"),
-        (6, Some(5), "x", ""),
-    ];
-    for (failing, failed, a, b) in rows {
-        let mut store = store_of_a(rt.alloc(), failing)?;
-        let calls = failing_calls(&mut store);
-        assert!(rt; calls.iter().position(|failed| *failed) == failed);
-        assert!(rt; store.failures.faults == if failing == 0 { 0 } else { 1 });
-        assert!(rt; holds(&store.files, "a", a));
-        assert!(rt; holds(&store.files, "b", b) == (failing != 6));
-    }
-    Ok(())
-}
-
-#[test]
-fn the_second_put_fails(rt: HostRuntime) -> Result<(), Fail> {
-    let mut sink = MemorySink::new(rt.alloc(), Vec::from_slice(rt.alloc(), &[2])?);
-    assert!(rt; put_all(&mut sink, b"ab").is_ok());
-    assert!(rt; put_all(&mut sink, b"cd") == Err(SinkFault::Failed));
-    assert!(rt; put_all(&mut sink, b"ef").is_ok());
-    assert!(rt; sink.bytes.as_slice() == "abef".as_bytes());
-    Ok(())
-}
+use wr_outside::{
+    ReadRefusal, Sink, SinkFault, Store, StoreFault, put_all, read_whole, write_whole,
+};
 
 // Whether this file is read as this text.
 fn reads<S: Store>(alloc: Global, store: &mut S, limit: u64, text: &str) -> bool {
@@ -85,42 +25,6 @@ fn refuses<S: Store>(
         Ok(_) => false,
         Err(given) => given == refusal,
     }
-}
-
-#[test]
-fn whole_files(rt: HostRuntime) -> Result<(), Fail> {
-    let alloc = rt.alloc();
-    // The name, the limit, the number of the call that fails, and the refusal.
-    let refusals = [
-        ("b", 3, 0, ReadRefusal::Missing),
-        ("a", 2, 0, ReadRefusal::TooLong(3)),
-        ("a", 3, 1, ReadRefusal::Fault),
-        ("a", 3, 2, ReadRefusal::Fault),
-    ];
-    for (name, limit, failing, refusal) in refusals {
-        let mut store = store_of_a(alloc, failing)?;
-        assert!(rt; refuses(alloc, &mut store, name, limit, refusal));
-    }
-    for (failing, left) in [(1, "abc"), (2, ""), (3, "new")] {
-        let mut store = store_of_a(alloc, failing)?;
-        assert!(rt; write_whole(&mut store, "a", b"new").is_ok() == (failing == 3));
-        assert!(rt; holds(&store.files, "a", left));
-    }
-    Ok(())
-}
-
-#[test]
-fn what_never_fails(rt: HostRuntime) -> Result<(), Fail> {
-    let alloc = rt.alloc();
-    let mut store = SafeStore::new(alloc, NamedFiles::new(alloc));
-    assert!(rt; write_whole(&mut store, "a", b"new").is_ok());
-    assert!(rt; reads(alloc, &mut store, 3, "new"));
-    assert!(rt; write_whole(&mut store, "a", b"").is_ok());
-    assert!(rt; reads(alloc, &mut store, 0, ""));
-    let mut sink = SafeSink::new(alloc);
-    assert!(rt; put_all(&mut sink, b"abc").is_ok());
-    assert!(rt; sink.bytes.as_slice() == "abc".as_bytes());
-    Ok(())
 }
 
 // A file of every name and a sink at once, which tells nothing. Its size is whatever it says, a call gives or takes
