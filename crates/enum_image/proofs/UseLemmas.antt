@@ -7,7 +7,8 @@ use Rattle.md_bytes.specs.Bytes.{le}
 use Rattle.md_schema.specs.declared.sizes.Sizes.{Sizes}
 use Rattle.md_schema.specs.Written.{table_bytes}
 use Rattle.winmd_rows.specs.Entries.{Entries, with_item, numbers_of, texts_in, blobs_in, texts_in_row, blobs_in_row}
-use Rattle.winmd_rows.specs.Images.{numbered_tables, rows_at, entries_for, sizes_for, parts_with, text_heap, blob_heap}
+use Rattle.md_tables.specs.Numbers.{by_number, count_or}
+use Rattle.winmd_rows.specs.Images.{entries_for, sizes_for, parts_with, text_heap, blob_heap}
 use Rattle.md_bytes.specs.Padding.{padded}
 use Rattle.winmd_image.specs.Parts.{parts_of}
 use Rattle.winmd_image.specs.Spelled.{image_bytes}
@@ -49,7 +50,7 @@ length-constants : (n : ℕ) (cases : List Case) → length (constant_rows n cas
 length-constants n [] = refl
 length-constants n (c ∷ cases) = ap suc (length-constants (suc n) cases)
 
-pub counts_are : (full : List ℕ) (version : ℕ) (cases : List Case) → counts_with (length cases) ≡ map (rows_at (enum_rows full version cases)) numbered_tables
+pub counts_are : (full : List ℕ) (version : ℕ) (cases : List Case) → counts_with (length cases) ≡ map (count_or (enum_rows full version cases)) by_number
 counts_are full version cases =
     let more : length cases + 1 ≡ suc (length cases) = omega arith in
     rw (length-cases cases, length-constants 2 cases, more) refl
@@ -80,7 +81,7 @@ pub sizes_of_enum : (s : Sizes) (full : List ℕ) (version : ℕ) (cases : List 
     → s ≡ sizes_for (enum_entries full version cases) (enum_rows full version cases)
 sizes_of_enum s full version cases texts blobs ea eb ec en et eu =
     sizes_are s (nat_le 0x10000 (length (text_heap (enum_entries full version cases).texts))) false (nat_le 0x10000 (length (blob_heap (enum_entries full version cases).blobs)))
-    (map (rows_at (enum_rows full version cases)) numbered_tables)
+    (map (count_or (enum_rows full version cases)) by_number)
     (ea ∙ ap (λ (x : ℕ). nat_le 0x10000 x) et) eb (ec ∙ ap (λ (x : ℕ). nat_le 0x10000 x) eu) (en ∙ counts_are full version cases)
 
 -- the image of an enum, by its stream of tables and its heaps

@@ -1,5 +1,5 @@
 //! `#Blob`: blobs behind their lengths (ECMA-335 II.24.2.4).
-ghost use Rattle.std.specs.Prelude.{◌≡◌, ◌+◌, ◌<◌, ◌≤◌, ◌^◌, ◌-◌, ◌↔◌, ℕ, [], None, Some, Ok, Err, length, OnErr, IfOk};
+ghost use Rattle.std.specs.Prelude.{◌≡◌, ◌+◌, ◌<◌, ◌≤◌, ◌^◌, ◌-◌, ◌↔◌, ℕ, [], None, Some, Ok, Err, length, OnOk, OnErr, IfOk};
 ghost use Rattle.md_schema.specs.Given.{Gives};
 ghost use Rattle.md_heaps.specs.Blobs.{BlobHere, blob_bytes, first_blob};
 ghost use Rattle.md_heaps.specs.Heaps.{index_of, with_entry, length_with, EachStands, Keeps};
@@ -72,14 +72,24 @@ impl BlobHeap {
         }
         match self.store.room(written_length(blob.len() as u32)) {
             Ok(at) => {
-                let mut lead = Vec::new(self.alloc);
-                put_compressed(&mut lead, blob.len() as u32)?;
-                self.store.add(lead.as_slice(), blob, &[], at)?;
+                add_blob(&mut self.store, self.alloc, blob, at)?;
                 Ok(at)
             }
             Err(full) => Err(Stop::Refused(full)),
         }
     }
+}
+
+// Puts a new blob at the end, behind its length.
+fn add_blob(store: &mut Store, alloc: Global, blob: &[u8], at: u32) -> Result<(), Memory>
+    requires absent { index_of store.old blob.now ≡ None }
+    requires room { length store.old.bytes + length (blob_bytes blob.now) < 2 ^ 29 }
+    ensures added { OnOk result (store.new ≡ with_entry store.old blob.now (blob_bytes blob.now) at) }
+    ensures unchanged { OnErr result (store.new ≡ store.old) }
+{
+    let mut lead = Vec::new(alloc);
+    put_compressed(&mut lead, blob.len() as u32)?;
+    store.add(lead.as_slice(), blob, &[], at)
 }
 
 // How many bytes a blob takes, with its length in front.

@@ -14,7 +14,7 @@ is_known n = is_some (get_or by_number n None)
 abbrev pub Rows : Type 0
 Rows = Table → List (List ℕ)
 
--- how many rows the table of a number has
-abbrev pub count_or : Rows → Option Table → ℕ
+-- how many rows the table of a number has; none where the number has no table
+abbrev pub count_or : {A : Type 0} → (Table → List A) → Option Table → ℕ
 count_or rows None = 0
 count_or rows (Some table) = length (rows table)

@@ -21,11 +21,11 @@ pub struct TableSet {
 }
 
 impl TableSet {
-    ghost use Rattle.std.specs.Prelude.{ℕ, [], ◌++◌, ◌∷◌, ◌==◌, IfOk, OnOk, OnErr, if◌then◌else◌};
+    ghost use Rattle.std.specs.Prelude.{[], IfOk, OnOk, OnErr};
     ghost use Rattle.md_schema.specs.declared.table.Table.{Table};
-    ghost use Rattle.md_schema.specs.Schema.{columns_of, place_of};
+    ghost use Rattle.md_schema.specs.Schema.{columns_of};
     ghost use Rattle.md_tables.specs.Lists.{cells_in};
-    ghost use Rattle.md_tables.specs.Rows.{rows_in};
+    ghost use Rattle.md_tables.specs.Rows.{rows_in, with_row};
 
     /// A set without rows.
     pub fn new(
@@ -55,14 +55,25 @@ impl TableSet {
     /// Adds a row at the end of a table. The number of its columns is the table's.
     pub fn push<const N: usize>(&mut self, table: Table, row: &Row<N>) -> Result<(), AllocError>
         requires { N ≡ length (columns_of table) }
-        ensures added { OnOk result ((other : Table) → rows_in self.new other
-            ≡ (if place_of other == place_of table then rows_in self.old other ++ row.now.cells ∷ [] else rows_in self.old other)) }
-        ensures unchanged { OnErr result ((other : Table) → rows_in self.new other ≡ rows_in self.old other) }
+        ensures added { OnOk result (rows_in self.new ≡ with_row (rows_in self.old) table row.now.cells) }
+        ensures unchanged { OnErr result (rows_in self.new ≡ rows_in self.old) }
         ensures texts { self.new.long_texts ≡ self.old.long_texts }
         ensures guids { self.new.long_guids ≡ self.old.long_guids }
         ensures blobs { self.new.long_blobs ≡ self.old.long_blobs }
     {
         let cells = Vec::from_slice(self.alloc, &row.cells)?;
+        self.push_cells(table, cells)
+    }
+
+    /// Adds a row at the end of a table, with a cell for each of its columns.
+    pub fn push_cells(&mut self, table: Table, cells: Vec<u32>) -> Result<(), AllocError>
+        requires { length cells.items ≡ length (columns_of table) }
+        ensures added { OnOk result (rows_in self.new ≡ with_row (rows_in self.old) table cells.items) }
+        ensures unchanged { OnErr result (rows_in self.new ≡ rows_in self.old) }
+        ensures texts { self.new.long_texts ≡ self.old.long_texts }
+        ensures guids { self.new.long_guids ≡ self.old.long_guids }
+        ensures blobs { self.new.long_blobs ≡ self.old.long_blobs }
+    {
         self.tables[place(table)].push(cells)?;
         Ok(())
     }

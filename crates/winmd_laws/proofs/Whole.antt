@@ -31,7 +31,8 @@ use Rattle.wr_base.specs.declared.declaration.Declaration.TheVariants.{Enum, Str
 use Rattle.winmd_rows.specs.Entries.{Entries, texts_in, blobs_in, numbers_of}
 use Rattle.winmd_rows.specs.Faults.{Fault, in_image, ◌>>=◌}
 use Rattle.winmd_rows.specs.Fits.{Fits, EnumFits, CaseFits}
-use Rattle.winmd_rows.specs.Images.{parts_with, sizes_for, numbered_tables, rows_at, text_heap, blob_heap}
+use Rattle.md_tables.specs.Numbers.{by_number, count_or}
+use Rattle.winmd_rows.specs.Images.{parts_with, sizes_for, text_heap, blob_heap}
 use Rattle.md_bytes.specs.Padding.{padded, zeros, up}
 use Rattle.winmd_image.specs.Parts.{Parts, Small}
 use Rattle.winmd_image.specs.Spelled.{metadata, image_bytes}
@@ -70,15 +71,15 @@ none_known : has_unknown 0x900001417 ≡ false
 unfolding first_from
 none_known = refl
 
-bits_known : (full : List ℕ) (version : ℕ) (cs : List Case) → has_unknown (bits (map (rows_at (enum_rows full version cs)) numbered_tables)) ≡ false
+bits_known : (full : List ℕ) (version : ℕ) (cs : List Case) → has_unknown (bits (map (count_or (enum_rows full version cs)) by_number)) ≡ false
 bits_known full version cs =
     let field : ltb 0 (suc (length (map case_row cs))) ≡ true = lt-ltb _ _ (omega arith) in
     elim (either (ltb 0 (length (constant_rows 2 cs)))) [
       | inl e ↦
-          let is : bits (map (rows_at (enum_rows full version cs)) numbered_tables) ≡ 0x900001C17 = rw (field, e) refl in
+          let is : bits (map (count_or (enum_rows full version cs)) by_number) ≡ 0x900001C17 = rw (field, e) refl in
           ap has_unknown is ∙ some_known
       | inr e ↦
-          let is : bits (map (rows_at (enum_rows full version cs)) numbered_tables) ≡ 0x900001417 = rw (field, e) refl in
+          let is : bits (map (count_or (enum_rows full version cs)) by_number) ≡ 0x900001417 = rw (field, e) refl in
           ap has_unknown is ∙ none_known
     ]
 

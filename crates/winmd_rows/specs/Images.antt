@@ -1,12 +1,12 @@
 -- The image that holds rows, byte for byte.
-use Rattle.std.specs.Prelude.{ℕ, List, [], ◌∷◌, length, map, nat_le, false, Option, Some, None}
+use Rattle.std.specs.Prelude.{ℕ, List, [], ◌∷◌, length, map, nat_le, false}
 use Rattle.std.specs.List.{flat_map}
 use Rattle.md_schema.specs.declared.table.Table.{Table}
-use Rattle.md_schema.specs.declared.table.Table.TheVariants as tables
 use Rattle.md_schema.specs.declared.sizes.Sizes.{Sizes}
 use Rattle.wr_base.specs.declared.declaration.Declaration.{Declaration}
 use Rattle.md_heaps.specs.Blobs.{blob_bytes}
 use Rattle.md_heaps.specs.Texts.{text_bytes}
+use Rattle.md_tables.specs.Numbers.{by_number, count_or}
 use Rattle.winmd_rows.specs.Values.{Value}
 use Rattle.winmd_rows.specs.Entries.{Entries, entries_of, texts_in, blobs_in, numbers_of}
 use Rattle.md_schema.specs.Written.{table_bytes}
@@ -14,22 +14,6 @@ use Rattle.md_bytes.specs.Padding.{padded}
 use Rattle.winmd_image.specs.Parts.{Parts, parts_of}
 use Rattle.winmd_image.specs.Spelled.{image_bytes}
 use Rattle.winmd_rows.specs.Written.{rows_of}
-
--- the table of each number from 0 to 0x2C; some numbers have none
-abbrev pub numbered_tables : List (Option Table)
-numbered_tables =
-    Some tables.Module ∷ Some tables.TypeRef ∷ Some tables.TypeDef ∷ None ∷ Some tables.Field ∷ None ∷ Some tables.MethodDef ∷ None ∷
-    Some tables.Param ∷ Some tables.InterfaceImpl ∷ Some tables.MemberRef ∷ Some tables.Constant ∷ Some tables.CustomAttribute ∷ Some tables.FieldMarshal ∷
-    Some tables.DeclSecurity ∷ Some tables.ClassLayout ∷ Some tables.FieldLayout ∷ Some tables.StandAloneSig ∷ Some tables.EventMap ∷ None ∷ Some tables.Event ∷
-    Some tables.PropertyMap ∷ None ∷ Some tables.Property ∷ Some tables.MethodSemantics ∷ Some tables.MethodImpl ∷ Some tables.ModuleRef ∷ Some tables.TypeSpec ∷
-    Some tables.ImplMap ∷ Some tables.FieldRva ∷ None ∷ None ∷ Some tables.Assembly ∷ Some tables.AssemblyProcessor ∷ Some tables.AssemblyOs ∷
-    Some tables.AssemblyRef ∷ Some tables.AssemblyRefProcessor ∷ Some tables.AssemblyRefOs ∷ Some tables.File ∷ Some tables.ExportedType ∷ Some tables.ManifestResource ∷
-    Some tables.NestedClass ∷ Some tables.GenericParam ∷ Some tables.MethodSpec ∷ Some tables.GenericParamConstraint ∷ []
-
--- how many rows stand at a number; none where the number has no table
-abbrev pub rows_at : {A : Type 0} → (Table → List A) → Option Table → ℕ
-rows_at rows None = 0
-rows_at rows (Some table) = length (rows table)
 
 -- the bytes of heaps with these entries
 abbrev pub text_heap : List (List ℕ) → List ℕ
@@ -44,7 +28,7 @@ sizes_for entries rows = record {
   long_texts = nat_le 0x10000 (length (text_heap entries.texts));
   long_guids = false;
   long_blobs = nat_le 0x10000 (length (blob_heap entries.blobs));
-  rows = map (rows_at rows) numbered_tables;
+  rows = map (count_or rows) by_number;
 }
 
 -- the streams of an image with these rows, whose texts and blobs stand in heaps with these entries
