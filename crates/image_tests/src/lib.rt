@@ -1,22 +1,12 @@
-//! Tests of images: an image worked out by hand from ECMA-335 against what the tools write, and what the plain reader finds in it, whole,
-//! edited and cut.
+//! Tests of what is written: an image worked out by hand from ECMA-335 against what the tools write, and what the plain reader finds in it; and examples of what
+//! edited images state, which the prover computes. `image_cases` tries the plain reader on these edits, and on others.
 #![tactic(auto)]
 
-#[cfg(test)]
-mod built;
-#[cfg(test)]
-mod cuts;
 mod defined;
-#[cfg(test)]
-mod edits;
-#[cfg(test)]
-mod limits;
 #[cfg(test)]
 mod offsets;
 #[cfg(test)]
 mod reading;
-#[cfg(test)]
-mod rows;
 #[cfg(test)]
 mod shop;
 #[cfg(test)]
