@@ -51,31 +51,48 @@ fn version_in(value: &[u8]) -> Option<u32> {
     }
 }
 
-/// The version that the attributes of a type state: 1 where none does. The type of every attribute is looked at, and the value of this one alone.
-pub fn version_of(tables: &Tables<'_>, type_row: u32) -> Result<u32, ImageFault> {
+/// The attributes of a type that state its version: the last one's row, and whether there are several.
+#[derive(Clone, Copy, Debug)]
+struct Versions {
+    row: Option<u32>,
+    is_repeated: bool,
+}
+
+/// The attributes that state the version of a type. The type of every attribute of it is looked at.
+fn versions_of(tables: &Tables<'_>, type_row: u32) -> Result<Versions, ImageFault> {
     let owner = Target {
         table: Table::TypeDef,
         row: type_row,
     };
-    let mut found: Option<u32> = None;
-    let mut is_repeated = false;
+    let mut found = Versions {
+        row: None,
+        is_repeated: false,
+    };
     for i in 0..tables.count(Table::CustomAttribute) {
         let row = i + 1;
         if tables.leads(Table::CustomAttribute, row, 0, owner) {
             let name = name_of_attribute(tables, row)?;
             if name.is("Windows.Foundation.Metadata", "VersionAttribute") {
-                is_repeated = is_repeated || found.is_some();
-                found = Some(row);
+                found = Versions {
+                    row: Some(row),
+                    is_repeated: found.row.is_some(),
+                };
             }
         }
     }
+    Ok(found)
+}
+
+/// The version that the attributes of a type state: 1 where none does. The value of one alone is looked at.
+pub fn version_of(tables: &Tables<'_>, type_row: u32) -> Result<u32, ImageFault> {
+    let found = versions_of(tables, type_row)?;
     let shape = fault(
         ImageKind::BadShape,
         tables.offset(Table::TypeDef, type_row, 0),
     );
-    match found {
+    match found.row {
         None => Ok(1),
-        Some(_) if is_repeated => Err(shape),
+        Some(_) if found.is_repeated => Err(shape),
         Some(row) => {
             let value = tables.blob(Table::CustomAttribute, row, 2)?;
             version_in(value).ok_or(shape)

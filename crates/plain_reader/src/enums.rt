@@ -12,8 +12,8 @@ use crate::names::TypeName;
 use crate::signatures::field_type;
 use crate::unread::{Unread, fault};
 use md_schema::{ImageFault, ImageKind, Table};
-use winmd_image::number_at;
 use std::alloc::Global;
+use winmd_image::number_at;
 use wr_base::{Case, Cases, Declaration, FullName, Name, tests_identifier};
 
 /// The rows of Field from the first up to, and without, the end.
@@ -195,6 +195,33 @@ fn path_of(
     Ok(path)
 }
 
+/// The enum of a row of TypeDef with this name and these fields.
+fn enum_with(
+    alloc: Global,
+    tables: &Tables<'_>,
+    type_row: u32,
+    name: FullName,
+    fields: Fields,
+) -> Result<Declaration, Unread>
+    ensures { IfOk result IsEnum }
+{
+    let is_unsigned = is_unsigned(tables, fields, type_row)?;
+    let cases = cases_of(alloc, tables, is_unsigned, fields)?;
+    if cases.as_slice().len() > limits::CASES {
+        return Err(Unread::Fault(fault(
+            ImageKind::PastLimit,
+            tables.offset(Table::TypeDef, type_row, 0),
+        )));
+    }
+    let version = version_of(tables, type_row)?;
+    Ok(Declaration::Enum {
+        name,
+        version,
+        flags: is_unsigned,
+        cases,
+    })
+}
+
 /// The enum of a row of TypeDef with this name.
 pub fn enum_of(
     alloc: Global,
@@ -206,19 +233,5 @@ pub fn enum_of(
 {
     let path = path_of(alloc, tables, type_row, name)?;
     let fields = fields_of(tables, type_row)?;
-    let is_unsigned = is_unsigned(tables, fields, type_row)?;
-    let cases = cases_of(alloc, tables, is_unsigned, fields)?;
-    if cases.as_slice().len() > limits::CASES {
-        return Err(Unread::Fault(fault(
-            ImageKind::PastLimit,
-            tables.offset(Table::TypeDef, type_row, 0),
-        )));
-    }
-    let version = version_of(tables, type_row)?;
-    Ok(Declaration::Enum {
-        name: path,
-        version,
-        flags: is_unsigned,
-        cases,
-    })
+    enum_with(alloc, tables, type_row, path, fields)
 }

@@ -78,6 +78,26 @@ fn check_kind(
     Ok(())
 }
 
+/// The declaration of a row of TypeDef with the flag 0x4000 and this name, unless it extends `System.Attribute`.
+fn named_type(
+    alloc: Global,
+    tables: &Tables<'_>,
+    row: u32,
+    name: TypeName<'_>,
+) -> Result<Option<Declaration>, Unread>
+    ensures { IfOk result (λ found. IfSome found IsEnum) }
+{
+    let extends = tables.target(Table::TypeDef, row, 3)?;
+    let base = base_of(tables, row, extends)?;
+    if base.is("System", "Attribute") {
+        return Ok(None);
+    }
+    check_outer(tables, row)?;
+    check_kind(tables, row, extends, base)?;
+    let declaration = enum_of(alloc, tables, row, name)?;
+    Ok(Some(declaration))
+}
+
 /// The declaration of a row of TypeDef, if the row is read: where it has the flag 0x4000, isn't `<Module>` and doesn't extend
 /// `System.Attribute`.
 fn type_of(alloc: Global, tables: &Tables<'_>, row: u32) -> Result<Option<Declaration>, Unread>
@@ -90,15 +110,7 @@ fn type_of(alloc: Global, tables: &Tables<'_>, row: u32) -> Result<Option<Declar
     if name.is("", "<Module>") {
         return Ok(None);
     }
-    let extends = tables.target(Table::TypeDef, row, 3)?;
-    let base = base_of(tables, row, extends)?;
-    if base.is("System", "Attribute") {
-        return Ok(None);
-    }
-    check_outer(tables, row)?;
-    check_kind(tables, row, extends, base)?;
-    let declaration = enum_of(alloc, tables, row, name)?;
-    Ok(Some(declaration))
+    named_type(alloc, tables, row, name)
 }
 
 /// The declarations that the rows of an image state, in the order of TypeDef.
