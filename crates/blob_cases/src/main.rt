@@ -1,4 +1,4 @@
-//! Prints what each line of the standard input asks for: a command and a blob in hexadecimal digits.
+//! Prints what each line of the standard input asks for: a command and a blob in hexadecimal digits. A line that begins with `#` is printed as it is.
 #![tactic(auto)]
 
 mod again;
@@ -38,14 +38,20 @@ fn answer(alloc: Global, known: &Known, command: &str, rest: &str) -> Result<Str
     read(alloc, known, command, &bytes_of(alloc, rest))
 }
 
+fn case(rt: &HostRuntime, known: &Known, line: &str) -> io::Result<()> {
+    let (command, rest) = line.split_once(' ').unwrap_or((line, ""));
+    if command == "#" {
+        return println!(rt; "{line}");
+    }
+    match answer(rt.alloc(), known, command, rest) {
+        Ok(text) => println!(rt; "{text}"),
+        Err(_) => println!(rt; "no memory"),
+    }
+}
+
 fn cases(rt: &HostRuntime, known: &Known) -> io::Result<()> {
     for line in rt.lines(rt.alloc()) {
-        let line = line?;
-        let (command, rest) = line.split_once(' ').unwrap_or((line.as_str(), ""));
-        match answer(rt.alloc(), known, command, rest) {
-            Ok(text) => println!(rt; "{text}")?,
-            Err(_) => println!(rt; "no memory")?,
-        }
+        case(rt, known, line?.as_str())?;
     }
     Ok(())
 }
