@@ -1,5 +1,5 @@
 -- Uses that are met, and what a list leads to.
-use Rattle.std.proofs.Common.{◌≡◌, ◌<◌, ◌≤◌, ◌+◌, ◌-◌, ℕ, zero, suc, Bool, true, false, cond, ◌||◌, List, [], ◌∷◌, ◌++◌, Some, ◌⊎◌, inl, inr, ⊎_elim, Contains, take, length, get_or, slice_get, refl, sym, ap, subst, ◌∙◌, arith, append_assoc, append-nil, not, true≢false, Result, Ok, Err, OnOk}
+use Rattle.std.proofs.Common.{◌≡◌, ◌<◌, ◌≤◌, ◌+◌, ◌-◌, ℕ, zero, suc, Bool, true, false, cond, ◌||◌, List, [], ◌∷◌, ◌++◌, Some, ◌⊎◌, inl, inr, ⊎_elim, Contains, take, length, get_or, slice_get, refl, sym, ap, subst, ◌∙◌, arith, append_assoc, append-nil, not, true≢false, Result, Ok, Err, OnOk, IfOk}
 use Rattle.std.specs.List.{flat_map, AllZip}
 use Rattle.std.proofs.lemmas.List.Elements.{AllZip-push}
 use Rattle.std.proofs.lemmas.List.{length-map, map_push, get_or-map}
@@ -62,6 +62,10 @@ listed_at (x ∷ us) text e = ⊎_elim
 pub on_ok_then : {X E : Type 0} (r : Result X E) (P Q : Type 0) → (P → Q) → OnOk r P → OnOk r Q
 on_ok_then (Ok x) P Q f h = f h
 on_ok_then (Err e) P Q f h = tt
+
+pub if_ok_then : {X E : Type 0} (r : Result X E) (P Q : X → Type 0) → ((x : X) → P x → Q x) → IfOk r P → IfOk r Q
+if_ok_then (Ok x) P Q f h = f x h
+if_ok_then (Err e) P Q f h = tt
 
 -- ---- meetings
 

@@ -21,9 +21,11 @@ with_list whole (Enum name version flags cases) = Enum name version flags cases
 with_list whole (Struct name version fields) = Struct name version fields
 with_list whole (Delegate name version id invoke) = Delegate name version id invoke
 
--- a declaration with its list closed, where it stands
+-- a declaration with its list closed
+abbrev pub Closes : List Declaration → Declaration → Declaration → Type 0
+Closes types open_ closed = (whole : List TypeUse) × IsClosure types (listed_in open_) whole × (closed ≡ with_list whole open_)
+
+-- the same, where it stands
 pub record IsClosing (types : List Declaration) (open_ : Site) (closed : Site) : Type 0 where
-  pub whole : List TypeUse
-  pub closure : IsClosure types (listed_in open_.decl) whole
-  pub decl : closed.decl ≡ with_list whole open_.decl
+  pub decl : Closes types open_.decl closed.decl
   pub places : closed.places ≡ open_.places

@@ -9,7 +9,7 @@ ghost use Rattle.wr_rules.specs.ListRules.{listed_in};
 ghost use Rattle.closed_lists.specs.Indexes.{names_in, Indexes};
 ghost use Rattle.closed_lists.specs.Views.{decls_in, site_view, sites_in};
 ghost use Rattle.closed_lists.specs.Closing.{has, Agrees, Meets, Follows};
-ghost use Rattle.closed_lists.specs.Closures.{IsClosure, IsClosing, with_list};
+ghost use Rattle.closed_lists.specs.Closures.{IsClosure, Closes, IsClosing, with_list};
 
 use crate::index::{index_of, required};
 use crate::site::PlacedDeclaration;
@@ -129,6 +129,28 @@ fn set_list(declaration: &mut Declaration, whole: Uses)
     }
 }
 
+// A copy of the declaration with another list.
+fn with_list(declaration: &Declaration, whole: Uses) -> Result<Declaration, AllocError>
+    ensures { IfOk result (λ d. d ≡ with_list whole declaration.now) }
+{
+    let mut copy = declaration.clone()?;
+    set_list(&mut copy, whole);
+    Ok(copy)
+}
+
+fn close_list(
+    alloc: Global,
+    sites: &[PlacedDeclaration],
+    index: &BTreeMap<String, usize>,
+    declaration: &Declaration,
+) -> Result<Declaration, AllocError>
+    requires { Indexes index.now (names_in sites.now) }
+    ensures { IfOk result (Closes (decls_in sites.now) declaration.now) }
+{
+    let whole = closure(alloc, sites, index, list_of(declaration))?;
+    with_list(declaration, Items::from_vec(whole))
+}
+
 fn close(
     alloc: Global,
     sites: &[PlacedDeclaration],
@@ -138,12 +160,11 @@ fn close(
     requires { Indexes index.now (names_in sites.now) }
     ensures { IfOk result (λ closed. IsClosing (decls_in sites.now) (site_view site.now) (site_view closed)) }
 {
-    let whole = closure(alloc, sites, index, list_of(&site.declaration))?;
-    let mut declaration = site.declaration.clone()?;
-    set_list(&mut declaration, Items::from_vec(whole));
+    let places = site.places.clone()?;
+    let declaration = close_list(alloc, sites, index, &site.declaration)?;
     Ok(PlacedDeclaration {
         declaration,
-        places: site.places.clone()?,
+        places,
     })
 }
 

@@ -2,9 +2,8 @@
 use Rattle.std.proofs.Common.{◌≡◌, ◌<◌, ℕ, zero, suc, Bool, true, false, List, [], ◌∷◌, ◌++◌, Some, None, length, map, get_or, refl, sym, ap, subst, ◌∙◌, arith, append_assoc}
 use Rattle.std.specs.Prelude.{codes}
 use Rattle.found_table.specs.declared.found.FoundPart.{FoundPart}
-use Rattle.found_table.specs.declared.found.Found.{Found}
 use Rattle.found_table.specs.Found.{FoundRow}
-use Rattle.found_table.specs.Views.{part_view, found_view}
+use Rattle.found_table.specs.Views.{part_view}
 use Rattle.wr_rules.specs.Signatures.{Piece, semicolon, closing, joined, grouped, found_piece, found_pieces}
 use Rattle.pinterface_id.specs.Stack.{put}
 use Rattle.pinterface_id.specs.Found.{parts_of, Flows, FoundWritten, PartWritten}
@@ -49,8 +48,6 @@ struct_written name fs old mid last new m f n =
           ∙ put_put head (f.0 ++ 41 ∷ []) (joined r),
     )
 
-pub struct_stops : (name : List ℕ) (fs : List FoundPart) (i : ℕ) (d : FoundPart) (b : Bool) (old new : List ℕ) (f : Found) → i < length fs → b ≡ false → PartWritten b (found_piece (part_view (get_or fs i d)).type_) old new
-    → found_view f ≡ FoundRow.Struct name (map part_view fs) → (r : List Piece) → joined (found_pieces [] (λ inside u. []) [] (found_view f) ++ r) ≡ None
-struct_stops name fs i d b old new f l e w is r =
-    ap (λ (row : FoundRow). joined (found_pieces [] (λ inside u. []) [] row ++ r)) is
-    ∙ struct_fails name fs i d l (subst (λ (x : Bool). PartWritten x (found_piece (part_view (get_or fs i d)).type_) old new) e w) r
+pub part_stops : (name : List ℕ) (fs : List FoundPart) (i : ℕ) (d : FoundPart) (b : Bool) (old new : List ℕ) → i < length fs → b ≡ false → PartWritten b (found_piece (part_view (get_or fs i d)).type_) old new
+    → (r : List Piece) → joined (found_pieces [] (λ inside u. []) [] (FoundRow.Struct name (map part_view fs)) ++ r) ≡ None
+part_stops name fs i d b old new l e w r = struct_fails name fs i d l (subst (λ (x : Bool). PartWritten x (found_piece (part_view (get_or fs i d)).type_) old new) e w) r

@@ -2,6 +2,7 @@
 
 ghost use Rattle.std.specs.Prelude.{◌≡◌, ◌++◌, ◌∷◌, [], ◌<◌, Some, None, IfOk, OnOk, option_map, length, map, slice_get, string_bytes};
 ghost use Rattle.found_table.specs.Views.{found_view, part_view};
+ghost use Rattle.found_table.specs.Found.{FoundRow};
 ghost use Rattle.wr_base.specs.Declarations.{IsInOrder};
 ghost use Rattle.wr_rules.specs.Kinds as kinds;
 ghost use Rattle.wr_base.specs.Trees.{tree_of};
@@ -34,27 +35,34 @@ fn push_found_part(text: &mut String, part: &FoundPart) -> Result<bool, AllocErr
     }
 }
 
+fn push_found_struct(
+    text: &mut String,
+    name: &str,
+    fields: &[FoundPart],
+) -> Result<bool, AllocError>
+    ensures { IfOk result (λ fine. FoundWritten fine (found_pieces [] (λ inside u. []) [] (FoundRow.Struct name.now (map part_view fields.now))) (string_bytes text.old) (string_bytes text.new)) }
+{
+    push_head(text, "struct", name)?;
+    for part in fields {
+        if !push_found_part(text, part)? {
+            return Ok(false);
+        }
+    }
+    text.push_str(")")?;
+    Ok(true)
+}
+
 fn push_found(text: &mut String, found: &Found) -> Result<bool, AllocError>
     ensures { IfOk result (λ fine. FoundWritten fine (found_pieces [] (λ inside u. []) [] (found_view found.now)) (string_bytes text.old) (string_bytes text.new)) }
 {
     match found {
-        Found::Struct { name, fields } => {
-            push_head(text, "struct", name)?;
-            for part in *fields {
-                if !push_found_part(text, part)? {
-                    return Ok(false);
-                }
-            }
-            text.push_str(")")?;
-            Ok(true)
-        }
+        Found::Struct { name, fields } => push_found_struct(text, name, fields),
         Found::Interface { id, .. } => {
             push_braced(text, *id)?;
             Ok(true)
         }
         Found::Delegate { id, .. } => {
-            push_id_head(text, "delegate", *id)?;
-            text.push_str(")")?;
+            push_delegate(text, *id)?;
             Ok(true)
         }
     }
