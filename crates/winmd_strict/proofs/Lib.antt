@@ -6,3 +6,4 @@ pub mod WholeLaws
 pub mod StrictLaws
 pub mod NotStrict
 pub mod Sizes
+pub mod OneImage

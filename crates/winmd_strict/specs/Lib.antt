@@ -3,3 +3,4 @@ pub mod Shapes
 pub mod Reading
 pub mod Strict
 pub mod Wrong
+pub mod One

@@ -6,16 +6,23 @@ ghost use Rattle.md_schema.specs.declared.table.Table.{Table};
 ghost use Rattle.winmd_rows.specs.Values.{Value, Offsets, stated};
 ghost use Rattle.winmd_sets.specs.Fits.{Fits};
 ghost use Rattle.winmd_sets.specs.Rows.{rows_of};
+ghost use Rattle.winmd_strict.specs.One.{one_image};
 ghost use Rattle.winmd_strict.specs.Placed.{Heaped, Placed, Holds, numbers_in_row};
 ghost use Rattle.winmd_strict.specs.Reading.{RowsOf, TypesOf};
 ghost use Rattle.winmd_strict.specs.Strict.{Strict};
-ghost use Rattle.winmd_strict.specs.Wrong.{further_row, wrong_flag, unsorted};
+ghost use Rattle.winmd_strict.specs.Wrong.{one, further_row, wrong_flag, unsorted};
 
 /// A strict image has the rows of its declarations, and states them where they are a set that fits, to a reader that knows nothing of how
 /// the image was written.
 pub fn strict_states()
     ensures rows { (bytes : List ℕ) (strict : Strict bytes) → (offset : Offsets) × (RowsOf bytes ≡ Ok (record { rows = stated (rows_of strict.declared); offset = offset })) }
     ensures set { (bytes : List ℕ) (strict : Strict bytes) → Fits strict.declared → TypesOf bytes ≡ Ok strict.declared }
+{}
+
+/// There are strict images: this one of one struct, which states it.
+pub fn one_is_strict()
+    ensures strict { Strict one_image }
+    ensures states { TypesOf one_image ≡ Ok one }
 {}
 
 /// What no strict image has: no bytes at all, bytes behind its section, a heap of texts that doesn't begin with a zero, two indices for one

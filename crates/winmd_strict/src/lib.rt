@@ -4,4 +4,4 @@
 
 mod laws;
 
-pub use laws::{not_strict, strict_states};
+pub use laws::{not_strict, one_is_strict, strict_states};
