@@ -289,7 +289,7 @@ fn item(out: &mut String, node: &ItemNode) -> Result<(), AllocError> {
 }
 
 /// The file's tree: `import "a""b";`, and then its namespaces.
-pub fn show(out: &mut String, file: &File) -> Result<(), AllocError> {
+pub fn file_text(out: &mut String, file: &File) -> Result<(), AllocError> {
     for files in &file.imports {
         out.push_str("import ")?;
         terminals(out, files)?;

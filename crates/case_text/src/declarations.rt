@@ -1,6 +1,5 @@
-//! What is declared as a text that is short enough to be written by hand: a piece for each item, with the offsets of its name and of its parts.
+//! Declarations as texts that are short enough to be written by hand.
 
-use midl_names::{Placed, PlacedItem, Signatures, Written, WrittenClass};
 use std::alloc::AllocError;
 use wr_base::{
     Cases, DeclPlaces, Declaration, Fields, Member, Members, Params, Signature, TypeUse, Uses,
@@ -13,7 +12,7 @@ fn number(out: &mut String, value: u32) -> Result<(), AllocError> {
 }
 
 /// `$` for an enum or a struct, `&` for an interface, a delegate or a class, and the text.
-fn use_text(out: &mut String, ty: &TypeUse) -> Result<(), AllocError> {
+pub fn use_text(out: &mut String, ty: &TypeUse) -> Result<(), AllocError> {
     match ty {
         TypeUse::Plain(_) => {}
         TypeUse::Value(_) => out.push_str("$")?,
@@ -23,7 +22,8 @@ fn use_text(out: &mut String, ty: &TypeUse) -> Result<(), AllocError> {
     ty.push_text(out)
 }
 
-fn uses(out: &mut String, list: &Uses) -> Result<(), AllocError> {
+/// ` :`, and the use, for each.
+pub fn uses(out: &mut String, list: &Uses) -> Result<(), AllocError> {
     for ty in list.as_slice() {
         out.push_str(" :")?;
         use_text(out, ty)?;
@@ -44,7 +44,7 @@ fn params(out: &mut String, list: &Params) -> Result<(), AllocError> {
     Ok(())
 }
 
-fn signature(out: &mut String, sig: &Signature) -> Result<(), AllocError> {
+pub fn signature(out: &mut String, sig: &Signature) -> Result<(), AllocError> {
     out.push_str("(")?;
     params(out, &sig.params)?;
     out.push_str(")")?;
@@ -79,7 +79,7 @@ fn member(out: &mut String, one: &Member) -> Result<(), AllocError> {
     }
 }
 
-fn members(out: &mut String, list: &Members) -> Result<(), AllocError> {
+pub fn members(out: &mut String, list: &Members) -> Result<(), AllocError> {
     for one in list.as_slice() {
         member(out, one)?;
         out.push_str(";")?;
@@ -108,7 +108,7 @@ fn fields(out: &mut String, list: &Fields) -> Result<(), AllocError> {
     Ok(())
 }
 
-fn head(out: &mut String, kind: &str, name: &str, version: u32) -> Result<(), AllocError> {
+pub fn head(out: &mut String, kind: &str, name: &str, version: u32) -> Result<(), AllocError> {
     out.push_str(kind)?;
     out.push_str(" ")?;
     out.push_str(name)?;
@@ -116,13 +116,14 @@ fn head(out: &mut String, kind: &str, name: &str, version: u32) -> Result<(), Al
     number(out, version)
 }
 
-fn id_text(out: &mut String, id: u128) -> Result<(), AllocError> {
+pub fn id_text(out: &mut String, id: u128) -> Result<(), AllocError> {
     let alloc = *out.allocator();
     let text = format!(in alloc; " {id:x}")?;
     out.push_str(text.as_str())
 }
 
-fn declaration(out: &mut String, one: &Declaration) -> Result<(), AllocError> {
+/// Its kind, name and version, and its parts.
+pub fn declaration(out: &mut String, one: &Declaration) -> Result<(), AllocError> {
     match one {
         Declaration::Enum {
             name,
@@ -176,56 +177,13 @@ fn declaration(out: &mut String, one: &Declaration) -> Result<(), AllocError> {
     }
 }
 
-fn constructors(out: &mut String, list: &Signatures) -> Result<(), AllocError> {
-    for sig in list.as_slice() {
-        out.push_str(" new")?;
-        signature(out, sig)?;
-    }
-    Ok(())
-}
-
-fn class(out: &mut String, one: &WrittenClass) -> Result<(), AllocError> {
-    head(out, "class", one.name.as_str(), one.version)?;
-    if one.fixed {
-        out.push_str(" fixed")?;
-    }
-    if one.marked {
-        out.push_str(" marked")?;
-    }
-    uses(out, &one.listed)?;
-    members(out, &one.members)?;
-    out.push_str(" static")?;
-    members(out, &one.statics)?;
-    constructors(out, &one.constructors)
-}
-
-fn places(out: &mut String, list: &DeclPlaces) -> Result<(), AllocError> {
+/// ` @`, and the offsets of its name and of its parts.
+pub fn places(out: &mut String, list: &DeclPlaces) -> Result<(), AllocError> {
     out.push_str(" @")?;
     number(out, list.at.offset)?;
     for part in list.parts.as_slice() {
         out.push_str(",")?;
         number(out, part.offset)?;
-    }
-    Ok(())
-}
-
-fn item(out: &mut String, one: &PlacedItem) -> Result<(), AllocError> {
-    match &one.item {
-        Written::Done(done) => declaration(out, done)?,
-        Written::Class(written) => class(out, written)?,
-    }
-    if let Some(id) = one.id {
-        out.push_str(" id")?;
-        id_text(out, id)?;
-    }
-    places(out, &one.places)
-}
-
-/// The items, each with a `|` behind it.
-pub(crate) fn placed(out: &mut String, list: &Placed) -> Result<(), AllocError> {
-    for one in list.as_slice() {
-        item(out, one)?;
-        out.push_str("|")?;
     }
     Ok(())
 }
