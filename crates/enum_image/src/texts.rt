@@ -37,14 +37,20 @@ fn intern_cases(heap: &mut Heap, alloc: Global, cases: &[Case]) -> Result<(), Me
     Ok(())
 }
 
-/// The heap `#Strings` of an enum.
-pub fn text_heap(alloc: Global, space: &[u8], name: &[u8], cases: &[Case]) -> Result<Heap, Memory>
+/// Makes the texts of an enum entries, in the order in which its rows use them.
+fn intern_texts(
+    heap: &mut Heap,
+    alloc: Global,
+    space: &[u8],
+    name: &[u8],
+    cases: &[Case],
+) -> Result<(), Memory>
     requires spaced { length space.now < 512 }
     requires named { length name.now < 512 }
     requires fit { All CaseFits cases.now }
-    ensures { IfOk result (λ heap. IsHeap framings.Text (fold with_item ([] ∷ []) (texts_before space.now name.now ++ (map (λ c. c.name) cases.now ++ texts_behind))) heap) }
+    ensures { (items : List (List ℕ)) → IsHeap framings.Text items heap.old →
+        OnOk result (IsHeap framings.Text (fold with_item items (texts_before space.now name.now ++ (map (λ c. c.name) cases.now ++ texts_behind))) heap.new) }
 {
-    let mut heap = empty_heap(alloc, Framing::Text)?;
     let before: [&[u8]; 10] = [
         b"types.winmd",
         b"Enum",
@@ -57,8 +63,8 @@ pub fn text_heap(alloc: Global, space: &[u8], name: &[u8], cases: &[Case]) -> Re
         space,
         b"value__",
     ];
-    intern_all(&mut heap, alloc, &before)?;
-    intern_cases(&mut heap, alloc, cases)?;
+    intern_all(heap, alloc, &before)?;
+    intern_cases(heap, alloc, cases)?;
     let behind: [&[u8]; 7] = [
         b".ctor",
         b"types",
@@ -68,7 +74,19 @@ pub fn text_heap(alloc: Global, space: &[u8], name: &[u8], cases: &[Case]) -> Re
         b"Windows.Foundation.FoundationContract",
         b"",
     ];
-    intern_all(&mut heap, alloc, &behind)?;
+    intern_all(heap, alloc, &behind)?;
+    Ok(())
+}
+
+/// The heap `#Strings` of an enum.
+pub fn text_heap(alloc: Global, space: &[u8], name: &[u8], cases: &[Case]) -> Result<Heap, Memory>
+    requires spaced { length space.now < 512 }
+    requires named { length name.now < 512 }
+    requires fit { All CaseFits cases.now }
+    ensures { IfOk result (λ heap. IsHeap framings.Text (fold with_item ([] ∷ []) (texts_before space.now name.now ++ (map (λ c. c.name) cases.now ++ texts_behind))) heap) }
+{
+    let mut heap = empty_heap(alloc, Framing::Text)?;
+    intern_texts(&mut heap, alloc, space, name, cases)?;
     Ok(heap)
 }
 
@@ -95,18 +113,28 @@ fn intern_constants(heap: &mut Heap, alloc: Global, cases: &[Case]) -> Result<()
     Ok(())
 }
 
+/// Makes the blobs of an enum entries, in the order in which its rows use them.
+fn intern_blobs(heap: &mut Heap, alloc: Global, version: u32, cases: &[Case]) -> Result<(), Memory>
+    requires { All CaseFits cases.now }
+    ensures { (items : List (List ℕ)) → IsHeap framings.Blob items heap.old →
+        OnOk result (IsHeap framings.Blob (fold with_item items ((6 ∷ 8 ∷ []) ∷ (signatures_of cases.now ++ ((0x20 ∷ 1 ∷ 1 ∷ 9 ∷ []) ∷ (constants_of cases.now ++ blobs_behind version))))) heap.new) }
+{
+    intern(heap, alloc, &VALUE_SIGNATURE)?;
+    intern_signatures(heap, alloc, cases)?;
+    intern(heap, alloc, &VERSION_SIGNATURE)?;
+    intern_constants(heap, alloc, cases)?;
+    let value = version_value(version);
+    let behind: [&[u8]; 6] = [&value, b"", &MSCORLIB_TOKEN, b"", b"", b""];
+    intern_all(heap, alloc, &behind)?;
+    Ok(())
+}
+
 /// The heap `#Blob` of an enum.
 pub fn blob_heap(alloc: Global, version: u32, cases: &[Case]) -> Result<Heap, Memory>
     requires { All CaseFits cases.now }
     ensures { IfOk result (λ heap. IsHeap framings.Blob (fold with_item ([] ∷ []) ((6 ∷ 8 ∷ []) ∷ (signatures_of cases.now ++ ((0x20 ∷ 1 ∷ 1 ∷ 9 ∷ []) ∷ (constants_of cases.now ++ blobs_behind version))))) heap) }
 {
     let mut heap = empty_heap(alloc, Framing::Blob)?;
-    intern(&mut heap, alloc, &VALUE_SIGNATURE)?;
-    intern_signatures(&mut heap, alloc, cases)?;
-    intern(&mut heap, alloc, &VERSION_SIGNATURE)?;
-    intern_constants(&mut heap, alloc, cases)?;
-    let value = version_value(version);
-    let behind: [&[u8]; 6] = [&value, b"", &MSCORLIB_TOKEN, b"", b"", b""];
-    intern_all(&mut heap, alloc, &behind)?;
+    intern_blobs(&mut heap, alloc, version, cases)?;
     Ok(heap)
 }
