@@ -1,5 +1,5 @@
 -- The numbers of an enum's rows fit their columns.
-use Rattle.std.proofs.Common.{◌≡◌, ℕ, zero, suc, ◌+◌, ◌-◌, ◌*◌, ◌^◌, ◌<◌, ◌≤◌, Bool, true, false, cond, ltb, leb, List, [], ◌∷◌, ◌++◌, length, map, refl, sym, ap, subst, arith, length-append, lit<}
+use Rattle.std.proofs.Common.{◌≡◌, ℕ, suc, ◌+◌, ◌-◌, ◌*◌, ◌^◌, ◌<◌, ◌≤◌, Bool, true, false, cond, ltb, leb, List, [], ◌∷◌, ◌++◌, length, map, refl, sym, ap, subst, arith, length-append, lit<}
 use Rattle.std.specs.Prelude.{bytes_eq, codes, ◌==◌}
 use Rattle.std.specs.List.{AllByRecursion, flat_map}
 use Rattle.std.proofs.lemmas.Bool.{le-ltb, lt-leb}
@@ -22,7 +22,6 @@ use Rattle.winmd_rows.specs.Fits.{CaseFits}
 use Rattle.winmd_rows.specs.Images.{entries_for, sizes_for, parts_with, text_heap, blob_heap}
 use Rattle.md_bytes.specs.Padding.{padded, zeros, up}
 use Rattle.md_bytes.proofs.ZeroLemmas.{length-zeros}
-use Rattle.winmd_image.specs.Parts.{Parts}
 use Rattle.winmd_image.specs.Spelled.{metadata}
 use Rattle.winmd_image.proofs.Headers.{length-metadata}
 use Rattle.winmd_rows.specs.Types.{has_dot, name_part, space_part, bits_of_int}

@@ -29,7 +29,7 @@ use Rattle.wr_base.specs.declared.declaration.Case.{Case}
 use Rattle.wr_base.specs.declared.declaration.Declaration.{Declaration}
 use Rattle.wr_base.specs.declared.declaration.Declaration.TheVariants.{Enum, Struct, Delegate, Interface, Class}
 use Rattle.winmd_rows.specs.Entries.{Entries, texts_in, blobs_in, numbers_of}
-use Rattle.winmd_rows.specs.Faults.{Fault, in_image, ◌>>=◌}
+use Rattle.winmd_rows.specs.Faults.{in_image, ◌>>=◌}
 use Rattle.winmd_rows.specs.Fits.{Fits, EnumFits, CaseFits}
 use Rattle.md_tables.specs.Numbers.{by_number, count_or}
 use Rattle.winmd_rows.specs.Images.{parts_with, sizes_for, text_heap, blob_heap}

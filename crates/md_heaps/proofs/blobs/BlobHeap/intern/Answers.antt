@@ -1,4 +1,4 @@
-use Rattle.std.proofs.Common.{◌≡◌, ℕ, List, None, length, ap, subst, sym, ◌∙◌, ◌++◌}
+use Rattle.std.proofs.Common.{◌≡◌, ℕ, List, length, ap, subst, sym, ◌∙◌, ◌++◌}
 use Rattle.md_heaps.specs.Heaps.{Heap, EachStands, Keeps, index_of, with_entry}
 use Rattle.md_heaps.specs.Blobs.{BlobHere, blob_bytes}
 use Rattle.md_heaps.proofs.HeapLaws.{keeps_new, stands_with, stands_new, found_new}
