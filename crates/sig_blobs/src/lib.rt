@@ -1,4 +1,7 @@
-//! Signatures and attributes' values in blobs (ECMA-335 II.23.2, II.23.3).
+//! Signatures and attributes' values in blobs (ECMA-335 II.23.2, II.23.3), written and read.
+//!
+//! The writers append exactly the canonical blob; the readers answer exactly what a blob spells, or its first fault with the fault's offset in
+//! the blob. What is canonical spells.
 #![tactic(auto)]
 
 mod argument;
