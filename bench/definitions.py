@@ -5,7 +5,7 @@
 
 A public clause is an `ensures` or `requires` of a function that a library's root hands out by `pub use`, of a method of such a type or trait, or of an impl of a
 trait for such a type. A definition that it cites is a
-name of crates/NAME/specs of this repository that the file imports by `ghost use`. A table of the document names definitions in its first column, each in
+name of crates/NAME/specs of this repository that the file imports by `ghost use`, but for the values of a file `Examples`. A table of the document names definitions in its first column, each in
 backticks, and the file, or files, where they stand in its second; `, ..` behind a path takes the crate's or folder's further files by their last names alone.
 """
 import os
@@ -35,7 +35,7 @@ def imported(text):
     """The names of this repository's definitions that a file of source imports, each with its crate and file."""
     found = {}
     for crate, path, names in GHOST.findall(text):
-        if not os.path.isdir(f"{TOP}/crates/{crate}/specs") or path.startswith("declared"):
+        if not os.path.isdir(f"{TOP}/crates/{crate}/specs") or path.startswith("declared") or path == "Examples":
             continue
         for name in filter(None, (it.strip() for it in names.split(","))):
             found[name.split(" as ")[-1]] = (name.split(" as ")[0], f"{crate}/specs/{path.replace('.', '/')}")
@@ -90,7 +90,7 @@ def documented():
         cells = [it.strip() for it in line.split("|")]
         if not line.startswith("|") or len(cells) < 4 or cells[1] in ("What", "---"):
             continue
-        for name in re.findall(r"`([^`]+)`", cells[1]):
+        for name in (it for it in re.findall(r"`([^`]+)`", cells[1]) if ".." not in it):
             found.setdefault(name, []).append(re.sub(r"\]\([^)]*\)|\[", "", cells[2]))
     return found
 
@@ -110,6 +110,12 @@ def stands(name, where):
     return False
 
 
+def is_declared(name, where):
+    """Whether the file declares the name, and not as a constructor of a type."""
+    path = f"{TOP}/crates/{where}.antt"
+    return os.path.isfile(path) and bool(re.search(rf"^\s*(?:\w+ )?pub (?:\w+ )?{re.escape(name)}(?![\w-])", text_of(path), re.M))
+
+
 def main():
     known, lacking = documented(), {}
     for path in sources():
@@ -117,7 +123,7 @@ def main():
         names = imported(text)
         for clause in clauses(text, handed_out(path)):
             for word in WORD.findall(clause):
-                if word in names and names[word][0] not in known:
+                if word in names and names[word][0] not in known and is_declared(*names[word]):
                     lacking.setdefault(names[word], os.path.relpath(path, f"{TOP}/crates"))
     for (name, where), path in sorted(lacking.items(), key=lambda it: (it[0][1], it[0][0])):
         print(f"lacks {name} ({where}), which {path} cites")

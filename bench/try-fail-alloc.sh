@@ -10,8 +10,23 @@ trap 'rm -rf "$room"' EXIT
 git clone -q "$top" "$room/copy" || exit 1
 main=$room/copy/crates/winrt/src/main.rt
 
-sed '/^fn main(/,$d' "$main" >"$room/main" || exit 1
-cat >>"$room/main" <<'END'
+sed -i 's/^winrt: winrt_run$/winrt: winrt_run wr_tools/' "$room/copy/crates.txt" || exit 1
+cat >"$room/main" <<'END'
+use std::process::ExitCode;
+use std::{env, io};
+use winrt_run::{Disk, Stream};
+use wr_tools::winrt_tool;
+
+fn words_of(rt: &HostRuntime) -> io::Result<Vec<String>> {
+    let mut words = Vec::new(rt.alloc());
+    for word in env::args(rt)?.skip(1) {
+        words
+            .push(word)
+            .map_err(|_| io::Error::from(io::ErrorKind::OutOfMemory))?;
+    }
+    Ok(words)
+}
+
 // So many texts, each of which is an allocation, in a list that has room for all.
 fn spend(rt: &HostRuntime, count: usize) -> Vec<String> {
     let Ok(mut kept) = Vec::with_capacity(rt.alloc(), 1000) else {

