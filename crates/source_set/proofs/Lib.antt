@@ -1,10 +1,10 @@
-pub mod PartLemmas
 pub mod NameLemmas
 pub mod TextLemmas
 pub mod LineLemmas
 pub mod SetLemmas
 pub mod TurnLemmas
 pub mod PhaseLemmas
+pub mod SourceLemmas
 pub mod LoopLemmas
 pub mod ImportLemmas
 pub mod LawLemmas

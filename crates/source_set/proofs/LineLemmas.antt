@@ -3,16 +3,8 @@ use Rattle.std.proofs.Common.{◌≡◌, ℕ, ◌+◌, ◌≤◌, ◌<◌, ◌==
 use Rattle.std.proofs.lemmas.List.{length-append, length-take-le, take_more, take_all}
 use Rattle.std.proofs.lemmas.List.Sums.{count_by-le-length, count_by_more_no, count_by_more_yes}
 use Rattle.std.proofs.lemmas.Bool.{ne_eqb, cases_lt}
-use Rattle.source_set.specs.Parts.{has, behind_last}
-use Rattle.source_set.proofs.PartLemmas.{behind_mark, behind_more}
-
-pub behind-le : (mark : ℕ) (bs : List ℕ) → length (behind_last mark bs) ≤ length bs
-unfolding behind_last
-behind-le mark [] = omega arith
-behind-le mark (b ∷ bs) = elim (has mark (b ∷ bs)) as (λ t. length (cond t (behind_last mark bs) (b ∷ bs)) ≤ length (b ∷ bs)) [
-  | true ↦ omega (arith, behind-le mark bs)
-  | false ↦ omega arith
-]
+use Rattle.wr_base.specs.Parts.{has, behind_last}
+use Rattle.wr_base.proofs.PartLaws.{behind_mark, behind_more, behind_short}
 
 -- the counts behind the first i bytes
 pub record Behind (bs : List ℕ) (i line column : ℕ) : Type 0 where
@@ -23,7 +15,7 @@ pub line_fits : (bs : List ℕ) (i line column : ℕ) → i ≤ length bs → Be
 line_fits bs i line column le h = omega (arith, h.line_is, count_by-le-length (λ b. b == 10) (take i bs), length-take-le i bs le)
 
 pub column_fits : (bs : List ℕ) (i line column : ℕ) → i ≤ length bs → Behind bs i line column → column ≤ i + 1
-column_fits bs i line column le h = omega (arith, h.column_is, behind-le 10 (take i bs), length-take-le i bs le)
+column_fits bs i line column le h = omega (arith, h.column_is, behind_short 10 (take i bs), length-take-le i bs le)
 
 pub feed : (bs : List ℕ) (i line column : ℕ) → i < length bs → get_or bs i 0 ≡ 10 → Behind bs i line column → Behind bs (i + 1) (line + 1) 1
 feed bs i line column l e h = record {
@@ -42,7 +34,6 @@ no_feed bs i line column l ne h = record {
 }
 
 pub nothing_behind : (bs : List ℕ) → Behind bs 0 1 1
-unfolding behind_last
 nothing_behind bs = record { line_is = refl; column_is = refl }
 
 -- a prefix up to an offset that may lie behind the end

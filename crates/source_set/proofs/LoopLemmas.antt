@@ -85,32 +85,32 @@ module _ (words : List (List ℕ)) (held : Option Files) (names : List (List ℕ
   pub limit_is : min 4194304 left ≡ room (map read_of sources)
   limit_is = ap (min 4194304) (let is : left ≡ 16777216 - size_of (map read_of sources) = omega (arith, state.left_is) in is)
 
-  pub fits : (s : Source) (number limit : ℕ) (name : List ℕ) → limit ≡ min 4194304 left → Turn held number limit name (Ok s) → length s.bytes.items ≤ left
+  pub fits : (s : Source) (number limit : ℕ) (name : List ℕ) → limit ≡ min 4194304 left → Turn held number limit name (Ok s) → length s.text.bytes.items ≤ left
   fits s number limit name e turn = omega (arith, turn.is.2, e)
 
   pub more : (names' : List (List ℕ)) (s : Source) (number limit : ℕ) (name : List ℕ) → slice_get names (length sources) ≡ Some name → length sources < 256
       → number ≡ length sources → limit ≡ min 4194304 left → Turn held number limit name (Ok s)
-      → names' ≡ first_names (with_names names (imported (string_bytes s.name) (source_view s.file)))
-      → State words held names' (sources ++ s ∷ []) (left - length s.bytes.items)
+      → names' ≡ first_names (with_names names (imported (string_bytes s.text.name) (source_view s.file)))
+      → State words held names' (sources ++ s ∷ []) (left - length s.text.bytes.items)
   more names' s number limit name at few n l turn e =
       let reads : List Read = map read_of sources in
       let r : Read = read_of s in
       let snoc : map read_of (sources ++ s ∷ []) ≡ reads ++ r ∷ [] = map-append read_of sources (s ∷ []) in
       let here : Before words held reads name = comes name at in
-      let set : Settled held reads name (Some s.bytes.items) = subst (Settled held reads name) turn.is.1 (settle words held reads name turn.content here turn.told) in
+      let set : Settled held reads name (Some s.text.bytes.items) = subst (Settled held reads name) turn.is.1 (settle words held reads name turn.content here turn.told) in
       let follows : Follows words reads r = record {
         few = omega (arith, length-map sources read_of);
         next = subst (IsNext words reads) (sym turn.is.0) here.next;
-        short = subst (λ m. length s.bytes.items ≤ m) (l ∙ limit_is) turn.is.2;
+        short = subst (λ m. length s.text.bytes.items ≤ m) (l ∙ limit_is) turn.is.2;
         tree = turn.is.3;
       } in
-      let low : length s.bytes.items ≤ left = fits s number limit name l turn in
-      let grown : size_of (reads ++ r ∷ []) ≡ size_of reads + length s.bytes.items = sum_by-append (λ x. length x.bytes) reads (r ∷ []) ∙ ap (λ t. size_of reads + t) (zero-add (length s.bytes.items)) in
+      let low : length s.text.bytes.items ≤ left = fits s number limit name l turn in
+      let grown : size_of (reads ++ r ∷ []) ≡ size_of reads + length s.text.bytes.items = sum_by-append (λ x. length x.bytes) reads (r ∷ []) ∙ ap (λ t. size_of reads + t) (zero-add (length s.text.bytes.items)) in
       record {
         files = set.files;
         may_hold = set.may_hold;
         begins = subst (Begins words) (sym snoc) (begins_more words reads r here.begins follows);
-        holds = subst (Holds set.files) (sym snoc) (holds_more set.files reads r set.holds (subst (λ m. finite.get set.files m ≡ Some s.bytes.items) (sym turn.is.0) set.content_is));
+        holds = subst (Holds set.files) (sym snoc) (holds_more set.files reads r set.holds (subst (λ m. finite.get set.files m ≡ Some s.text.bytes.items) (sym turn.is.0) set.content_is));
         names_are =
             e ∙ ap (λ t. first_names (with_names t (imports_in r))) state.names_are
             ∙ first_all 257 (found words reads) (imports_in r)

@@ -5,31 +5,7 @@ use Rattle.std.proofs.lemmas.List.{take-append-drop, reverse-reverse, reverse-ap
 use Rattle.std.proofs.lemmas.Str.Pattern.{NoCharPasses-char, drop_at_char}
 use Rattle.std.specs.Str.{NoCharPasses}
 use Rattle.std.specs.Str.Pattern.{RFindsChar, SplitsAroundMatch, HasCharAt}
-use Rattle.source_set.specs.Parts.{has, up_to_last, behind_last, without_first}
-use Rattle.source_set.proofs.PartLemmas.{none_up, none_behind, split_up, split_behind, none_has}
-
-none_passes : (mark : ℕ) (bs : List ℕ) → mark < 128 → NoCharPasses (λ d. d == mark) bs → has mark bs ≡ false
-none_passes mark bs low none = none_has mark bs (λ i l. NoCharPasses-char mark bs i none low l)
-
-parts : (mark : ℕ) (bs : List ℕ) (i j : ℕ) → mark < 128 → HasCharAt mark bs i j → bs ≡ take i bs ++ mark ∷ drop j bs
-parts mark bs i j low at = sym (take-append-drop i bs) ∙ ap (λ t. take i bs ++ t) (drop_at_char mark bs i j at low)
-
--- a cut at the last mark
-pub behind_cut : (mark : ℕ) (bs front back : List ℕ) → mark < 128 → SplitsAroundMatch (RFindsChar mark) bs front back → back ≡ behind_last mark bs
-behind_cut mark bs front back low (i, j, (none, at), f, b, le, p, q) =
-    b ∙ sym (ap (behind_last mark) (parts mark bs i j low at) ∙ split_behind mark (take i bs) (drop j bs) (none_passes mark (drop j bs) low none))
-
-pub up_cut : (mark : ℕ) (bs front back : List ℕ) → mark < 128 → SplitsAroundMatch (RFindsChar mark) bs front back → front ++ mark ∷ [] ≡ up_to_last mark bs
-up_cut mark bs front back low (i, j, (none, at), f, b, le, p, q) =
-    ap (λ t. t ++ mark ∷ []) f
-    ∙ sym (ap (up_to_last mark) (parts mark bs i j low at) ∙ split_up mark (take i bs) (drop j bs) (none_passes mark (drop j bs) low none))
-
--- no mark
-pub behind_uncut : (mark : ℕ) (bs : List ℕ) → mark < 128 → NoCharPasses (λ d. d == mark) bs → bs ≡ behind_last mark bs
-behind_uncut mark bs low none = sym (none_behind mark bs (none_passes mark bs low none))
-
-pub up_uncut : (mark : ℕ) (bs : List ℕ) → mark < 128 → NoCharPasses (λ d. d == mark) bs → [] ≡ up_to_last mark bs
-up_uncut mark bs low none = sym (none_up mark bs (none_passes mark bs low none))
+use Rattle.source_set.specs.Imports.{without_first}
 
 -- ---- the mark at the front
 

@@ -74,10 +74,10 @@ module _ (words : List (List ℕ)) (held : Option Files) (reads : List Read) (na
   stops_by (TooLong n) content h few told is =
       subst (λ m. Stopped words held m too_long) (sym is.0) (event_here too_long content h (settle words held reads name content h told) (few, is.1))
   stops_by (ReadFault n) content h few told is = subst (Reached words held) (sym is) (read_failed h few)
-  stops_by (Refused f) content h few told is =
+  stops_by (Refused text refusal) content h few told is =
       let s = settle words held reads name content h told in
-      subst (λ m. Faulted words held m f.bytes.items (refused f.refusal)) (sym is.0)
-      (fault_here f.bytes.items (refused f.refusal) h (subst (Settled held reads name) is.1 s) (few, (is.2, is.3)))
+      subst (λ m. Faulted words held m text.bytes.items (refused refusal)) (sym is.0)
+      (fault_here text.bytes.items (refused refusal) h (subst (Settled held reads name) is.1 s) (few, (is.2, is.3)))
   stops_by Memory content h few told is = tt
 
   pub stops : (number limit : ℕ) (stop : SourceStop) → Before words held reads name → length reads < most_files → number ≡ length reads → limit ≡ room reads

@@ -1,12 +1,17 @@
 -- The files that a file imports (MIDL 3.0 reference, "Import").
-use Rattle.std.specs.Prelude.{ℕ, Bool, not, ◌&&◌, ◌||◌, if◌then◌else◌, List, [], ◌∷◌, ◌++◌, map, reverse, codes}
+use Rattle.std.specs.Prelude.{ℕ, ◌==◌, Bool, not, ◌&&◌, ◌||◌, if◌then◌else◌, List, [], ◌∷◌, ◌++◌, map, reverse, codes}
 use Rattle.std.specs.List.{flat_map, starts_with, ends_with}
 use Rattle.std.specs.Bool.{nat_eq}
 use Rattle.std.specs.Char.{to_ascii_lowercase}
 use Rattle.std.specs.Str.{bytes_eq}
 use Rattle.midl_tree.specs.Symbols.{Symbol}
 use Rattle.midl_tree.specs.Trees.{SourceTree}
-use Rattle.source_set.specs.Parts.{up_to_last, behind_last, without_first}
+use Rattle.wr_base.specs.Parts.{up_to_last, behind_last}
+
+-- the bytes without the mark at their front
+abbrev pub without_first : ℕ → List ℕ → List ℕ
+without_first mark [] = []
+without_first mark (b ∷ bs) = if b == mark then bs else b ∷ bs
 
 -- a text without the quotation marks at its ends
 unfoldable pub unquoted : List ℕ → List ℕ

@@ -1,8 +1,8 @@
-pub mod Parts
 pub mod Imports
 pub mod Found
 pub mod Phases
 pub mod Events
+pub mod Texts
 pub mod Reads
 pub mod Turns
 pub mod Stops

@@ -4,7 +4,7 @@ use Rattle.std.specs.Fmt.{decimal}
 use Rattle.ranked.specs.Entries.{Entry}
 use Rattle.wr_base.specs.Codes.{rank_of, code_name}
 use Rattle.wr_base.specs.declared.code.Code.{Code}
-use Rattle.source_set.specs.Parts.{behind_last}
+use Rattle.wr_base.specs.Parts.{behind_last}
 
 -- the line of an offset, from 1: line feeds end lines
 abbrev pub line_at : List ℕ → ℕ → ℕ

@@ -40,7 +40,7 @@ StopIs words held (TooMany name) = Stopped words held (string_bytes name) too_ma
 StopIs words held (Missing name) = Stopped words held (string_bytes name) missing
 StopIs words held (TooLong name) = Stopped words held (string_bytes name) too_long
 StopIs words held (ReadFault name) = Reached words held (string_bytes name)
-StopIs words held (Refused f) = Faulted words held (string_bytes f.name) f.bytes.items (refused f.refusal)
+StopIs words held (Refused text refusal) = Faulted words held (string_bytes text.name) text.bytes.items (refused refusal)
 StopIs words held Memory = Unit {0}
 
 -- a read failed
@@ -49,5 +49,5 @@ IsReadFault (TooMany name) = ⊥
 IsReadFault (Missing name) = ⊥
 IsReadFault (TooLong name) = ⊥
 IsReadFault (ReadFault name) = Unit {0}
-IsReadFault (Refused f) = ⊥
+IsReadFault (Refused text refusal) = ⊥
 IsReadFault Memory = ⊥

@@ -12,15 +12,15 @@ use Rattle.source_set.specs.Phases.{HasTree, Faulty}
 -- by what is held under the name: a file of at most so many bytes with its tree, or why there is none
 abbrev pub TurnIs : ℕ → ℕ → List ℕ → Option (List ℕ) → Result Source SourceStop → Type 0
 TurnIs number limit name content (Ok s) =
-    (string_bytes s.name ≡ name) × (content ≡ Some s.bytes.items) × (length s.bytes.items ≤ limit)
-    × HasTree s.bytes.items (source_view s.file) × (s.file.number ≡ number)
+    (string_bytes s.text.name ≡ name) × (content ≡ Some s.text.bytes.items) × (length s.text.bytes.items ≤ limit)
+    × HasTree s.text.bytes.items (source_view s.file) × (s.file.number ≡ number)
 TurnIs number limit name content (Err (TooMany n)) = ⊥
 TurnIs number limit name content (Err (Missing n)) = (string_bytes n ≡ name) × (content ≡ None)
 TurnIs number limit name content (Err (TooLong n)) = (string_bytes n ≡ name) × IsSomeAnd content (λ bytes. limit < length bytes)
 TurnIs number limit name content (Err (ReadFault n)) = string_bytes n ≡ name
-TurnIs number limit name content (Err (Refused f)) =
-    (string_bytes f.name ≡ name) × (content ≡ Some f.bytes.items) × (length f.bytes.items ≤ limit)
-    × IsFirst (Faulty number f.bytes.items) (Some f.refusal)
+TurnIs number limit name content (Err (Refused text refusal)) =
+    (string_bytes text.name ≡ name) × (content ≡ Some text.bytes.items) × (length text.bytes.items ≤ limit)
+    × IsFirst (Faulty number text.bytes.items) (Some refusal)
 TurnIs number limit name content (Err Memory) = Unit {0}
 
 -- the same for what the store holds, as far as it tells

@@ -3,6 +3,7 @@
 #![tactic(auto)]
 
 mod distinct;
+mod files;
 mod imports;
 mod laws;
 mod lines;
@@ -12,7 +13,8 @@ mod set;
 mod source;
 mod texts;
 
+pub use files::SourceSet;
 pub use laws::one_outcome;
 pub use lines::refusal_line;
 pub use set::sources;
-pub use source::{FaultySource, Source, SourceStop};
+pub use source::{Source, SourceStop, Text};

@@ -1,7 +1,7 @@
 //! The line that a refusal puts on err.
 
 ghost use Rattle.std.specs.Prelude.{◌≡◌, ◌++◌, ◌+◌, ◌==◌, IfOk, string_bytes, length, count_by};
-ghost use Rattle.source_set.specs.Parts.{behind_last};
+ghost use Rattle.wr_base.specs.Parts.{behind_last};
 ghost use Rattle.source_set.specs.Lines.{head_of, word_part, IsRefusalLine};
 
 use std::alloc::{AllocError, Global};

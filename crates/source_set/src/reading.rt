@@ -7,7 +7,7 @@ ghost use Rattle.source_set.specs.Phases.{HasTree, RefusesFile};
 ghost use Rattle.source_set.specs.Stops.{IsReadFault};
 ghost use Rattle.source_set.specs.Turns.{Turn};
 
-use crate::source::{FaultySource, Source, SourceStop};
+use crate::source::{Source, SourceStop, Text};
 use midl_lex::{fault_is_first_entry, tokens, tokens_or_fault};
 use midl_parse::parse;
 use midl_tree::File;
@@ -52,12 +52,11 @@ pub(crate) fn take_file<S: Store>(
         Err(ReadRefusal::Memory) => return Err(SourceStop::Memory),
     };
     match tree_of(alloc, number, &bytes) {
-        Ok(file) => Ok(Source { name, bytes, file }),
-        Err(Stop::Refused(refusal)) => Err(SourceStop::Refused(FaultySource {
-            name,
-            bytes,
-            refusal,
-        })),
+        Ok(file) => Ok(Source {
+            text: Text { name, bytes },
+            file,
+        }),
+        Err(Stop::Refused(refusal)) => Err(SourceStop::Refused(Text { name, bytes }, refusal)),
         Err(Stop::Memory) => Err(SourceStop::Memory),
     }
 }

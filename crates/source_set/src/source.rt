@@ -6,20 +6,18 @@ use midl_tree::File;
 use std::alloc::{AllocError, AllocFailed};
 use wr_base::Refusal;
 
-/// A file of the set: its name, its bytes and its tree. The file's number is its place in the set, from 0.
+/// The text of a file: its name and its bytes.
 #[derive(Debug, Drop)]
-pub struct Source {
+pub struct Text {
     pub name: String,
     pub bytes: Vec<u8>,
-    pub file: File,
 }
 
-/// A file that is refused, and why.
+/// A file of the set: its text and its tree. The tree's number is the file's place in the set, from 0.
 #[derive(Debug, Drop)]
-pub struct FaultySource {
-    pub name: String,
-    pub bytes: Vec<u8>,
-    pub refusal: Refusal,
+pub struct Source {
+    pub text: Text,
+    pub file: File,
 }
 
 /// Why a set is not read whole, with the name of the file.
@@ -33,7 +31,8 @@ pub enum SourceStop {
     TooLong(String),
     /// The store failed.
     ReadFault(String),
-    Refused(FaultySource),
+    /// A fault in this text.
+    Refused(Text, Refusal),
     Memory,
 }
 

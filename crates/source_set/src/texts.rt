@@ -3,8 +3,8 @@
 ghost use Rattle.std.specs.Prelude.{◌≡◌, IfOk, codes, reverse, string_bytes};
 ghost use Rattle.std.specs.Bool.{nat_eq};
 ghost use Rattle.std.specs.List.{starts_with, ends_with};
-ghost use Rattle.source_set.specs.Parts.{behind_last, without_first};
-ghost use Rattle.source_set.specs.Imports.{unquoted, is_known, is_known_small, adds_file, behind_folder};
+ghost use Rattle.wr_base.specs.Parts.{behind_last};
+ghost use Rattle.source_set.specs.Imports.{without_first, unquoted, is_known, is_known_small, adds_file, behind_folder};
 
 use std::alloc::{AllocError, Global};
 

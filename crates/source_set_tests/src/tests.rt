@@ -1,4 +1,4 @@
-use source_set::{Source, SourceStop, refusal_line, sources};
+use source_set::{SourceStop, Text, refusal_line, sources};
 use std::alloc::Global;
 use std::test::Fail;
 use wr_outside::{MemoryStore, NamedFiles};
@@ -21,11 +21,11 @@ fn words_of(alloc: Global, words: &[&str]) -> Result<Vec<String>, Fail> {
     Ok(given)
 }
 
-// The names of the sources, each with a mark behind it.
-fn names_of(alloc: Global, read: &[Source]) -> Result<String, Fail> {
+// The names of the files, each with a mark behind it.
+fn names_of(alloc: Global, read: &[Text]) -> Result<String, Fail> {
     let mut names = String::new(alloc);
-    for source in read {
-        names.push_str(source.name.as_str())?;
+    for text in read {
+        names.push_str(text.name.as_str())?;
         names.push('|')?;
     }
     Ok(names)
@@ -38,8 +38,8 @@ fn stop_of(alloc: Global, stop: SourceStop) -> Result<String, Fail> {
         SourceStop::Missing(name) => Ok(format!(in alloc; "{name}: Missing\n")?),
         SourceStop::TooLong(name) => Ok(format!(in alloc; "{name}: TooLong\n")?),
         SourceStop::ReadFault(name) => Ok(format!(in alloc; "{name}: ReadFault\n")?),
-        SourceStop::Refused(f) => {
-            Ok(refusal_line(alloc, f.name.as_str(), f.bytes.as_slice(), &f.refusal)?)
+        SourceStop::Refused(text, refusal) => {
+            Ok(refusal_line(alloc, text.name.as_str(), text.bytes.as_slice(), &refusal)?)
         }
         SourceStop::Memory => Ok(String::from_str(alloc, "memory")?),
     }
@@ -54,7 +54,7 @@ fn outcome(
     let mut store = store_of(alloc, files, failing)?;
     let words = words_of(alloc, words)?;
     match sources(alloc, &mut store, &words) {
-        Ok(read) => names_of(alloc, &read),
+        Ok(read) => names_of(alloc, &read.texts),
         Err(stop) => stop_of(alloc, stop),
     }
 }
@@ -292,7 +292,7 @@ fn many(alloc: Global, files: usize) -> Result<Result<usize, String>, Fail> {
     }
     let mut store = MemoryStore::new(alloc, held, Vec::new(alloc));
     match sources(alloc, &mut store, &words) {
-        Ok(read) => Ok(Ok(read.len())),
+        Ok(read) => Ok(Ok(read.texts.len())),
         Err(stop) => Ok(Err(stop_of(alloc, stop)?)),
     }
 }
@@ -322,7 +322,7 @@ fn filled(alloc: Global, sizes: &[usize]) -> Result<String, Fail> {
     }
     let mut store = MemoryStore::new(alloc, held, Vec::new(alloc));
     match sources(alloc, &mut store, &words) {
-        Ok(read) => names_of(alloc, &read),
+        Ok(read) => names_of(alloc, &read.texts),
         Err(stop) => stop_of(alloc, stop),
     }
 }

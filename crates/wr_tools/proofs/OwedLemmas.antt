@@ -17,16 +17,17 @@ use Rattle.source_set.specs.declared.source.Source.{Source}
 use Rattle.source_set.specs.Events.{Event, too_many, missing, too_long, refused}
 use Rattle.source_set.specs.Found.{Read}
 use Rattle.source_set.specs.Lines.{IsRefusalLine}
-use Rattle.source_set.specs.Reads.{read_of, AreNumbered}
+use Rattle.source_set.specs.Texts.{text_of, text_in}
+use Rattle.source_set.specs.Reads.{read_of, text_view, AreNumbered}
 use Rattle.source_set.specs.Stops.{Complete, Stopped, Faulted, Reached}
 use Rattle.wr_tools.specs.Bare.{source_is_bare}
 use Rattle.wr_tools.specs.Command.{Owes}
 use Rattle.wr_tools.specs.Lines.{read_fault}
-use Rattle.wr_tools.specs.Made.{SmallAlone, Makes, text_of_source}
+use Rattle.wr_tools.specs.Made.{SmallAlone, Makes}
 use Rattle.wr_tools.specs.Midl.{EventLine, status_of, midl_command, first_word}
 use Rattle.wr_tools.specs.Outcomes.{RefusalOwed, ReadFaultOwed}
 use Rattle.wr_tools.specs.Reply.{refusal, done}
-use Rattle.wr_tools.specs.Sets.{sources_from, sources_of, text_of, text_in, IsSmall}
+use Rattle.wr_tools.specs.Sets.{sources_from, sources_of, IsSmall}
 
 -- ---- a set that isn't read whole
 
@@ -105,7 +106,7 @@ same_trees sources files n e =
     ap views.sources_of e ∙ map-map views.source_of (λ (t : Source). t.file) sources
     ∙ numbered_from 0 sources (λ k s at. n.each k s at ∙ omega arith)
 
-same_texts : (sources : List Source) → map text_of (map read_of sources) ≡ map text_of_source sources
+same_texts : (sources : List Source) → map text_of (map read_of sources) ≡ map (λ (s : Source). text_view s.text) sources
 same_texts sources = map-map text_of read_of sources
 
 module _ (words : List (List ℕ)) (held : Option Files) (sources : List Source) (files : List File) (complete : Complete words held sources)
@@ -114,7 +115,7 @@ module _ (words : List (List ℕ)) (held : Option Files) (sources : List Source)
   trees = same_trees sources files complete.numbered are
 
   -- a fault of the names phase
-  pub names_owed : (texts : List (List ℕ × List ℕ)) (e : Entry) (line : List ℕ) → texts ≡ map text_of_source sources
+  pub names_owed : (texts : List (List ℕ × List ℕ)) (e : Entry) (line : List ℕ) → texts ≡ map (λ (s : Source). text_view s.text) sources
       → IsFirst (Names (views.sources_of files)) (Some e) → IsRefusalLine (text_in texts e.file).0 (text_in texts e.file).1 e line
       → RefusalOwed words held 1 line
   names_owed texts e line same first said = record {

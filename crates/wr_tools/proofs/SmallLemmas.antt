@@ -4,7 +4,8 @@ use Rattle.std.specs.Prelude.{◌≢◌, MatchBool}
 use Rattle.wr_base.specs.Paths.{is_path}
 use Rattle.wr_base.specs.declared.declaration.Case.{Case}
 use Rattle.winmd_rows.specs.Types.{is_short_name}
-use Rattle.wr_tools.specs.SmallEnum.{AreDistinct, AreInt32, EnumIsSmall, foundation, lower}
+use Rattle.wr_tools.specs.SmallEnum.{AreDistinct, AreInt32, EnumIsSmall, foundation}
+use Rattle.wr_base.specs.Lower.{lower}
 
 pub told : {E : Type 0} → (r : Result Bool E) (name : List ℕ) (version : ℕ) (flags : Bool) (cases : List Case) → IsTrue (is_path name) → IsTrue (is_short_name name) → version < 2 ^ 32
     → flags ≡ false → length cases ≤ 200 → AreInt32 cases → lower name ≢ foundation → IfOk r (λ distinct. MatchBool distinct (AreDistinct cases) (¬ (AreDistinct cases)))

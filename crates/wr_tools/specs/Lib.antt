@@ -9,5 +9,6 @@ pub mod Sets
 pub mod Midl
 pub mod Words
 pub mod Made
+pub mod Said
 pub mod Outcomes
 pub mod Says

@@ -7,18 +7,9 @@ use Rattle.midl_tree.specs.declared.nodes.File.{File}
 use Rattle.midl_tree.specs.Views.{source_view}
 use Rattle.midl_names.specs.declared.placed.PlacedItem.{PlacedItem}
 use Rattle.midl_names.specs.declared.placed.Written.TheVariants.{Done}
-use Rattle.source_set.specs.declared.source.Source.{Source}
-use Rattle.wr_tools.specs.declared.texts.Text.{Text}
 use Rattle.wr_tools.specs.Bare.{source_is_bare}
 use Rattle.wr_tools.specs.SmallEnum.{IsSmallEnum}
 use Rattle.wr_tools.specs.Sets.{Image}
-
--- a file's name and its bytes, as the program has them
-abbrev pub text_view : Text → List ℕ × List ℕ
-text_view t = (string_bytes t.name, t.bytes.items)
-
-abbrev pub text_of_source : Source → List ℕ × List ℕ
-text_of_source s = (string_bytes s.name, s.bytes.items)
 
 -- this declaration was placed, and nothing else
 pub record IsOnly (placed : List PlacedItem) (declaration : Declaration) : Type 0 where

@@ -11,7 +11,8 @@ use Rattle.source_set.specs.Found.{Read}
 use Rattle.source_set.specs.Lines.{IsRefusalLine}
 use Rattle.wr_tools.specs.Reply.{Reply, refusal, done}
 use Rattle.wr_tools.specs.Command.{Command}
-use Rattle.wr_tools.specs.Sets.{sources_of, text_at, IsSmall, Image}
+use Rattle.source_set.specs.Texts.{text_at}
+use Rattle.wr_tools.specs.Sets.{sources_of, IsSmall, Image}
 
 abbrev pub unmatched : List ℕ
 unmatched = codes "winrt: the words do not match\n"

@@ -7,6 +7,7 @@ use Rattle.wr_tools.specs.Command.{Owes, Awaits}
 use Rattle.wr_tools.specs.Lines.{read_fault}
 use Rattle.wr_tools.specs.Midl.{midl_command}
 use Rattle.wr_tools.specs.Reply.{refusal, done}
+use Rattle.wr_tools.specs.Said.{status_said, text_said}
 
 -- a refusal of content or of a file, which is owed whatever OUT is
 pub record RefusalOwed (words : List (List ℕ)) (held : Option Files) (status : ℕ) (line : List ℕ) : Type 0 where
@@ -22,12 +23,12 @@ pub record ReadFaultOwed (words : List (List ℕ)) (held : Option Files) (line :
   pub is : line ≡ name ++ read_fault
 
 abbrev pub OutcomeIs : List (List ℕ) → Option Files → Outcome → Type 0
-OutcomeIs words held (Refused status line) = RefusalOwed words held status (string_bytes line)
-OutcomeIs words held (ReadFault line) = ReadFaultOwed words held (string_bytes line)
+OutcomeIs words held (Refused said name) = RefusalOwed words held (status_said said) (string_bytes name ++ text_said said)
+OutcomeIs words held (ReadFault name) = ReadFaultOwed words held (string_bytes name ++ read_fault)
 OutcomeIs words held (Image bytes) = (out : List ℕ) → Owes (midl_command out words) held (done out bytes.items)
 
 -- a read failed
 abbrev pub IsReadFault : Outcome → Type 0
-IsReadFault (Refused status line) = ⊥
-IsReadFault (ReadFault line) = Unit {0}
+IsReadFault (Refused said name) = ⊥
+IsReadFault (ReadFault name) = Unit {0}
 IsReadFault (Image bytes) = ⊥

@@ -1,5 +1,5 @@
 -- What a source set comes to, once each of its files has a tree.
-use Rattle.std.specs.Prelude.{◌≡◌, ℕ, ◌+◌, List, [], ◌∷◌, IsTrue, Ok, map, slice_get, unwrap_or}
+use Rattle.std.specs.Prelude.{◌≡◌, ℕ, ◌+◌, List, [], ◌∷◌, IsTrue, Ok}
 use Rattle.std.specs.List.{list_all}
 use Rattle.wr_base.specs.declared.declaration.Declaration.{Declaration}
 use Rattle.midl_names.specs.declared.placed.PlacedItem.{PlacedItem}
@@ -19,18 +19,6 @@ sources_from k (r ∷ rs) = record { file = k; tree = r.tree } ∷ sources_from 
 
 abbrev pub sources_of : List Read → List Source
 sources_of = sources_from 0
-
--- a file's name and its bytes
-abbrev pub text_of : Read → List ℕ × List ℕ
-text_of r = (r.name, r.bytes)
-
--- the text of this number; where there is none, no name and no bytes
-abbrev pub text_in : List (List ℕ × List ℕ) → ℕ → List ℕ × List ℕ
-text_in texts k = unwrap_or (slice_get texts k) ([], [])
-
--- the name and the bytes of the file of this number
-abbrev pub text_at : List Read → ℕ → List ℕ × List ℕ
-text_at reads k = text_in (map text_of reads) k
 
 -- the set declares this and nothing else
 pub record DeclaresAlone (sources : List Source) (declaration : Declaration) : Type 0 where

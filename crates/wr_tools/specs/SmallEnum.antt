@@ -1,16 +1,13 @@
 -- The enums that an image is written for so far.
-use Rattle.std.specs.Prelude.{◌≡◌, ◌≢◌, ◌<◌, ◌≤◌, ◌^◌, ℕ, Bool, false, List, length, map, codes, slice_get, Some, IsTrue}
+use Rattle.std.specs.Prelude.{◌≡◌, ◌≢◌, ◌<◌, ◌≤◌, ◌^◌, ℕ, Bool, false, List, length, codes, slice_get, Some, IsTrue}
 use Rattle.std.specs.List.{All}
-use Rattle.std.specs.Char.{to_ascii_lowercase}
+use Rattle.wr_base.specs.Lower.{lower}
 use Rattle.wr_base.specs.Paths.{is_path}
 use Rattle.wr_base.specs.declared.declaration.Case.{Case}
 use Rattle.wr_base.specs.declared.declaration.Declaration.{Declaration}
 use Rattle.wr_base.specs.declared.declaration.Declaration.TheVariants.{Enum}
 use Rattle.winmd_rows.specs.Fits.{IsInt32}
 use Rattle.winmd_rows.specs.Types.{is_short_name}
-
-abbrev pub lower : List ℕ → List ℕ
-lower = map to_ascii_lowercase
 
 abbrev pub lower_name : Case → List ℕ
 lower_name c = lower c.name

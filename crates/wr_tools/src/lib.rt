@@ -6,9 +6,9 @@ mod bare;
 mod made;
 mod midl;
 mod outcome;
+mod said;
 mod say;
 mod small;
-mod texts;
 mod tool;
 mod words;
 

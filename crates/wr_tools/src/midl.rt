@@ -1,10 +1,12 @@
-// The command `midl -o OUT FILE..`.
+//! The command `midl -o OUT FILE..`.
+
 ghost use Rattle.std.specs.Prelude.{map, string_bytes};
 ghost use Rattle.wr_tools.specs.Answers.{Answers};
 ghost use Rattle.wr_tools.specs.Midl.{midl_command};
 ghost use Rattle.wr_tools.specs.Outside.{Outside};
 
 use crate::outcome::{Outcome, compiled};
+use crate::said::Said;
 use crate::say::say;
 use std::alloc::Global;
 use wr_outside::{Sink, Store, StoreFault, write_whole};
@@ -39,11 +41,11 @@ pub fn midl<S: Store, O: Sink, E: Sink>(
     let _ = out;
     match compiled(alloc, files, store) {
         Err(_) => 6,
-        Ok(Outcome::Refused(status, line)) => say(err, status, line.as_str(), ""),
-        Ok(Outcome::ReadFault(line)) => say(err, 4, line.as_str(), ""),
+        Ok(Outcome::Refused(said, name)) => say(err, said, name.as_str()),
+        Ok(Outcome::ReadFault(name)) => say(err, Said::ReadFault, name.as_str()),
         Ok(Outcome::Image(bytes)) => match write_whole(store, image, &bytes) {
             Ok(()) => 0,
-            Err(StoreFault::Failed) => say(err, 5, image, ": WriteFault\n"),
+            Err(StoreFault::Failed) => say(err, Said::WriteFault, image),
             Err(StoreFault::Memory) => 6,
         },
     }

@@ -1,15 +1,15 @@
 //! The enums that an image is written for so far.
 
-ghost use Rattle.std.specs.Prelude.{◌≡◌, ◌≢◌, ◌↔◌, map, string_bytes, IfOk, IsTrue, MatchBool};
-ghost use Rattle.std.specs.Char.{to_ascii_lowercase};
+ghost use Rattle.std.specs.Prelude.{◌≡◌, ◌≢◌, ◌↔◌, string_bytes, IfOk, IsTrue, MatchBool};
 ghost use Rattle.winmd_rows.specs.Fits.{IsInt32};
-ghost use Rattle.wr_tools.specs.SmallEnum.{AreDistinct, AreInt32, EnumIsSmall, IsSmallEnum, foundation, lower};
+ghost use Rattle.wr_base.specs.Lower.{lower};
+ghost use Rattle.wr_tools.specs.SmallEnum.{AreDistinct, AreInt32, EnumIsSmall, IsSmallEnum, foundation, lower_name};
 
 use enum_image::is_short_name;
-use ranked::{Memory, Name};
+use ranked::Memory;
 use std::alloc::Global;
 use std::collections::BTreeSet;
-use wr_base::{Case, Declaration, FullName};
+use wr_base::{Case, Declaration, FullName, lowered};
 
 /// The most cases of an enum.
 const MOST_CASES: usize = 200;
@@ -31,12 +31,10 @@ fn are_int32(cases: &[Case]) -> bool
     true
 }
 
-fn lowered(alloc: Global, name: &Name) -> Result<String, Memory>
-    ensures { IfOk result (λ text. string_bytes text ≡ map to_ascii_lowercase name.now) }
+fn lower_name(alloc: Global, case: &Case) -> Result<String, Memory>
+    ensures { IfOk result (λ name. string_bytes name ≡ lower_name case.now) }
 {
-    let mut text = String::from_str(alloc, name.as_str())?;
-    text.make_ascii_lowercase();
-    Ok(text)
+    lowered(alloc, case.name.as_str())
 }
 
 fn are_distinct(alloc: Global, cases: &[Case]) -> Result<bool, Memory>
@@ -44,7 +42,7 @@ fn are_distinct(alloc: Global, cases: &[Case]) -> Result<bool, Memory>
 {
     let mut seen = BTreeSet::new(alloc);
     for case in cases {
-        let added = seen.insert(lowered(alloc, &case.name)?)?;
+        let added = seen.insert(lower_name(alloc, case)?)?;
         if !added {
             return Ok(false);
         }

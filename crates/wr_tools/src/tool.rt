@@ -1,10 +1,12 @@
-// The top call.
+//! The top call.
+
 ghost use Rattle.std.specs.Prelude.{map, string_bytes};
 ghost use Rattle.wr_tools.specs.Answers.{Answers};
 ghost use Rattle.wr_tools.specs.Outside.{Outside};
 ghost use Rattle.wr_tools.specs.Words.{command_of};
 
 use crate::midl::midl;
+use crate::said::Said;
 use crate::say::say;
 use crate::words::midl_of;
 use std::alloc::Global;
@@ -39,6 +41,6 @@ pub fn winrt_tool<S: Store, O: Sink, E: Sink>(
 {
     match midl_of(words) {
         Some((image, files)) => midl(alloc, image, files, store, out, err),
-        None => say(err, 2, "", "winrt: the words do not match\n"),
+        None => say(err, Said::Unmatched, ""),
     }
 }

@@ -1,7 +1,7 @@
 use Rattle.std.proofs.Common.{◌≡◌, ◌==◌, string_bytes, ◌++◌, ◌+◌, ◌∷◌, [], List, ℕ, take, length, count_by, ◌∙◌, ap}
 use Rattle.wr_base.specs.Codes.{code_name}
 use Rattle.source_set.specs.Lines.{line_at, column_at, head_of, word_part}
-use Rattle.source_set.specs.Parts.{behind_last}
+use Rattle.wr_base.specs.Parts.{behind_last}
 use Rattle.source_set.proofs.LineLemmas.{take_min}
 use Rattle.source_set.proofs.lines.refusal_line.Goals as goal
 

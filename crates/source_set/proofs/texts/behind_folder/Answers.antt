@@ -1,5 +1,5 @@
 use Rattle.std.proofs.Common.{◌≡◌, ◌∙◌, ap, subst, [], ◌∷◌, ◌++◌, IfOk, string_bytes, lit<}
-use Rattle.source_set.proofs.TextLemmas.{up_cut, up_uncut}
+use Rattle.wr_base.proofs.PartLaws.{up_cut, up_uncut}
 use Rattle.source_set.proofs.texts.behind_folder.Goals as goal
 
 pub returns-in_ok-push_str-in-Some : goal.returns-in_ok-push_str-in-Some

@@ -1,5 +1,5 @@
 use Rattle.std.proofs.Common.{lit<}
-use Rattle.source_set.proofs.TextLemmas.{behind_cut, behind_uncut}
+use Rattle.wr_base.proofs.PartLaws.{behind_cut, behind_uncut}
 use Rattle.source_set.proofs.texts.last_part.Goals as goal
 
 pub returns-in-Some : goal.returns-in-Some

@@ -1,6 +1,8 @@
-use Rattle.std.proofs.Common.{◌≡◌, ◌++◌, subst, sym, inl, ◌∙◌, ap, refl, Err, map, string_bytes, append-nil, arith, List, [], ℕ}
+use Rattle.std.proofs.Common.{◌≡◌, ◌++◌, subst, sym, inl, ◌∙◌, ap, refl, Err, map, string_bytes, arith, List, [], ℕ}
 use Rattle.wr_outside.specs.Files.{with_file, WritesSome}
-use Rattle.wr_tools.specs.Lines.{write_fault}
+use Rattle.wr_tools.specs.declared.said.Said.{Said}
+use Rattle.wr_tools.specs.Said.{status_said, text_said}
+use Rattle.wr_tools.specs.Lines.{read_fault, write_fault}
 use Rattle.wr_tools.specs.Outcomes.{OutcomeIs, IsReadFault, RefusalOwed, ReadFaultOwed}
 use Rattle.wr_tools.specs.Reply.{done}
 use Rattle.wr_tools.specs.Says.{Says}
@@ -11,22 +13,23 @@ use Rattle.wr_tools.proofs.midl.midl.Goals as goal
 pub returns-in-Ok-Refused : goal.returns-in-Ok-Refused
 returns-in-Ok-Refused g c =
     let words : List (List ℕ) = map string_bytes c.args.files.now in
-    let line : List ℕ = string_bytes c.in-Ok-Refused.line in
-    let owed : RefusalOwed words (g.S.Store.held c.args.store.now) c.in-Ok-Refused.status line =
+    let said : Said = c.in-Ok-Refused.said in
+    let line : List ℕ = string_bytes c.in-Ok-Refused.name ++ text_said said in
+    let owed : RefusalOwed words (g.S.Store.held c.args.store.now) (status_said said) line =
     subst (OutcomeIs words (g.S.Store.held c.args.store.now)) c.in-Ok-Refused.field-0-is c.in-Ok-Refused.ensures.is in
-    let whole : c.as_str.result.now ++ [] ≡ line = append-nil c.as_str.result.now ∙ c.as_str.ensures.value in
-    refuses _ _ _ c.in-Ok-Refused.status c.say.result line owed.low owed.high (λ e. absurd (owed.matched e)) (λ e. cc)
+    let whole : c.as_str.result.now ++ text_said said ≡ line = ap (λ t. t ++ text_said said) c.as_str.ensures.value in
+    refuses _ _ _ (status_said said) c.say.result line owed.low owed.high (λ e. absurd (owed.matched e)) (λ e. cc)
     (owed.owed c.args.image.now) c.in-Ok-Refused.ensures.kept refl
     (record { store = c.in-Ok-Refused.ensures.later; out = omega arith; err = c.say.ensures.later })
-    (subst (λ l. Says (g.E.Sink.told c.args.err.now) (g.E.Sink.told c.say.new.err) (g.E.Sink.faults c.args.err.now) (g.E.Sink.faults c.say.new.err) c.in-Ok-Refused.status l c.say.result) whole c.say.ensures.says)
+    (subst (λ l. Says (g.E.Sink.told c.args.err.now) (g.E.Sink.told c.say.new.err) (g.E.Sink.faults c.args.err.now) (g.E.Sink.faults c.say.new.err) (status_said said) l c.say.result) whole c.say.ensures.says)
 
 pub returns-in-Ok-ReadFault : goal.returns-in-Ok-ReadFault
 returns-in-Ok-ReadFault g c =
     let words : List (List ℕ) = map string_bytes c.args.files.now in
-    let line : List ℕ = string_bytes c.in-Ok-ReadFault.line in
+    let line : List ℕ = string_bytes c.in-Ok-ReadFault.name ++ read_fault in
     let owed : ReadFaultOwed words (g.S.Store.held c.args.store.now) line =
     subst (OutcomeIs words (g.S.Store.held c.args.store.now)) c.in-Ok-ReadFault.field-0-is c.in-Ok-ReadFault.ensures.is in
-    let whole : c.as_str-in-Ok-ReadFault.result.now ++ [] ≡ line = append-nil c.as_str-in-Ok-ReadFault.result.now ∙ c.as_str-in-Ok-ReadFault.ensures.value in
+    let whole : c.as_str-in-Ok-ReadFault.result.now ++ read_fault ≡ line = ap (λ t. t ++ read_fault) c.as_str-in-Ok-ReadFault.ensures.value in
     read_fails _ _ _ c.say-in-Ok-ReadFault.result line refl
     (record {
       rose = c.in-Ok-ReadFault.ensures.rose (subst IsReadFault (sym c.in-Ok-ReadFault.field-0-is) tt);

@@ -1,7 +1,8 @@
 use Rattle.std.proofs.Common.{◌≡◌, ◌≤◌, ◌<◌, ◌^◌, ◌∙◌, IsTrue, false, length, sym, rules}
 use Rattle.std.specs.Prelude.{◌≢◌}
 use Rattle.winmd_rows.specs.Types.{is_short_name}
-use Rattle.wr_tools.specs.SmallEnum.{AreInt32, foundation, lower}
+use Rattle.wr_tools.specs.SmallEnum.{AreInt32, foundation}
+use Rattle.wr_base.specs.Lower.{lower}
 use Rattle.wr_tools.proofs.SmallLemmas.{told}
 use Rattle.wr_tools.proofs.small.enum_is_small.Goals as goal
 
