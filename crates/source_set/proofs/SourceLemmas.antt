@@ -1,5 +1,5 @@
 -- The sources of a set, and its texts and trees.
-use Rattle.std.proofs.Common.{◌≡◌, ℕ, suc, ◌+◌, List, [], ◌∷◌, ◌++◌, length, map, refl, ap, arith}
+use Rattle.std.proofs.Common.{◌≡◌, ℕ, List, [], ◌∷◌, ◌++◌, length, map, refl, ap, arith}
 use Rattle.midl_tree.specs.declared.nodes.File.{File}
 use Rattle.source_set.specs.declared.source.Source.{Source}
 use Rattle.source_set.specs.declared.source.Text.{Text}
