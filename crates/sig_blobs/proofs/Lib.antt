@@ -1,4 +1,5 @@
 pub mod FaultLaws
+pub mod FrontLaws
 pub mod ModifierLaws
 pub mod PathLaws
 pub mod SeveralLaws

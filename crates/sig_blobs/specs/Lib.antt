@@ -1,3 +1,4 @@
+pub mod Appending
 pub mod Attributes
 pub mod Canonical
 pub mod CanonicalValues

@@ -1,11 +1,12 @@
 //! Signatures and attributes' values in blobs (ECMA-335 II.23.2, II.23.3), written and read.
 //!
-//! The writers append exactly the canonical blob; the readers answer exactly what a blob spells, or its first fault with the fault's offset in
-//! the blob. What is canonical spells.
+//! The writers append exactly the canonical blob, or after want of memory leave the bytes as they were; the readers answer exactly what
+//! a blob spells, or its first fault with the fault's offset in the blob. What is canonical spells.
 #![tactic(auto)]
 
 mod argument;
 mod attributes;
+mod cut_back;
 mod elements;
 mod faults;
 mod flaw;

@@ -1,6 +1,6 @@
 //! How numbers of types are made known and looked up.
 
-ghost use Rattle.std.specs.Prelude.{◌≡◌, ◌++◌, ℕ, List, OnOk, string_bytes, bytes_eq, if◌then◌else◌};
+ghost use Rattle.std.specs.Prelude.{◌≡◌, ◌++◌, ℕ, List, OnOk, OnErr, string_bytes, bytes_eq, if◌then◌else◌};
 ghost use Rattle.sig_blobs.specs.Numbers.{number_in};
 
 use crate::tokens::Tokens;
@@ -20,7 +20,8 @@ impl Tokens {
 
     /// From now on the number stands for the type of this name.
     pub fn add(&mut self, name: String, number: u32) -> Result<(), Memory>
-        ensures { OnOk result ((other : List ℕ) → number_in self.new other ≡ (if bytes_eq other (string_bytes name) then number else number_in self.old other)) }
+        ensures ok { OnOk result ((other : List ℕ) → number_in self.new other ≡ (if bytes_eq other (string_bytes name) then number else number_in self.old other)) }
+        ensures unchanged { OnErr result ((other : List ℕ) → number_in self.new other ≡ number_in self.old other) }
     {
         self.numbers.insert(name, number)?;
         Ok(())

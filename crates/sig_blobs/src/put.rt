@@ -1,7 +1,8 @@
-//! Elements, numbers and tokens as they are written.
+//! Elements, numbers and tokens as they are written. After want of memory a part may stand at the end.
 
-ghost use Rattle.std.specs.Prelude.{◌≡◌, ◌++◌, ◌∷◌, OnOk};
+ghost use Rattle.std.specs.Prelude.{◌≡◌, ◌++◌, ◌∷◌, OnOk, OnErr};
 ghost use Rattle.md_heaps.specs.Integers.{shortest};
+ghost use Rattle.sig_blobs.specs.Appending.{KeepsFront};
 ghost use Rattle.sig_blobs.specs.Elements.{is_guid};
 ghost use Rattle.sig_blobs.specs.Numbers.{number_in};
 ghost use Rattle.sig_blobs.specs.Writing.{base_bytes, template_bytes};
@@ -16,7 +17,8 @@ use wr_base::{Base, FullName};
 
 /// Appends a number in its shortest form. One of 2^29 or more has none (II.23.2), which is want of memory.
 pub(crate) fn put_number(into: &mut Vec<u8>, number: usize) -> Result<(), Memory>
-    ensures { OnOk result (into.new.items ≡ into.old.items ++ shortest number) }
+    ensures ok { OnOk result (into.new.items ≡ into.old.items ++ shortest number) }
+    ensures unchanged { OnErr result (into.new.items ≡ into.old.items) }
 {
     if number < 0x2000_0000 {
         put_compressed(into, number as u32)
@@ -32,7 +34,8 @@ pub(crate) fn put_token(
     name: &str,
     tokens: &Tokens,
 ) -> Result<(), Memory>
-    ensures { OnOk result (into.new.items ≡ into.old.items ++ element ∷ shortest (number_in tokens.now name.now)) }
+    ensures ok { OnOk result (into.new.items ≡ into.old.items ++ element ∷ shortest (number_in tokens.now name.now)) }
+    ensures front { OnErr result (KeepsFront into.old.items into.new.items) }
 {
     into.push(element)?;
     put_number(into, tokens.number(name) as usize)
@@ -49,7 +52,8 @@ fn tests_guid(base: Base) -> bool
 
 /// Appends a base type.
 pub(crate) fn put_base(into: &mut Vec<u8>, base: Base, tokens: &Tokens) -> Result<(), Memory>
-    ensures { OnOk result (into.new.items ≡ into.old.items ++ base_bytes (number_in tokens.now) base) }
+    ensures ok { OnOk result (into.new.items ≡ into.old.items ++ base_bytes (number_in tokens.now) base) }
+    ensures front { OnErr result (KeepsFront into.old.items into.new.items) }
 {
     if tests_guid(base) {
         return put_token(into, 0x11, "System.Guid", tokens);
@@ -65,7 +69,8 @@ pub(crate) fn put_template(
     count: usize,
     tokens: &Tokens,
 ) -> Result<(), Memory>
-    ensures { OnOk result (into.new.items ≡ into.old.items ++ template_bytes (number_in tokens.now) name.now count) }
+    ensures ok { OnOk result (into.new.items ≡ into.old.items ++ template_bytes (number_in tokens.now) name.now count) }
+    ensures front { OnErr result (KeepsFront into.old.items into.new.items) }
 {
     let full = template(*into.allocator(), name, count)?;
     into.push(0x15)?;

@@ -1,6 +1,6 @@
 //! The type that each number stands for where signatures are read.
 
-ghost use Rattle.std.specs.Prelude.{◌≡◌, ◌++◌, ◌∷◌, [], OnOk};
+ghost use Rattle.std.specs.Prelude.{◌≡◌, ◌++◌, ◌∷◌, [], OnOk, OnErr};
 ghost use Rattle.sig_blobs.specs.Given.{Finds};
 ghost use Rattle.sig_blobs.specs.Tokens.{meaning_in, row_name};
 
@@ -54,7 +54,8 @@ impl TokenNames {
 
     /// The next row of TypeDef.
     pub fn push_def(&mut self, name: RowName) -> Result<(), Memory>
-        ensures { OnOk result (self.new ≡ record self.old { defs = self.old.defs ++ name ∷ [] }) }
+        ensures ok { OnOk result (self.new ≡ record self.old { defs = self.old.defs ++ name ∷ [] }) }
+        ensures unchanged { OnErr result (self.new ≡ self.old) }
     {
         self.defs.push(name)?;
         Ok(())
@@ -62,7 +63,8 @@ impl TokenNames {
 
     /// The next row of TypeRef.
     pub fn push_ref(&mut self, name: RowName) -> Result<(), Memory>
-        ensures { OnOk result (self.new ≡ record self.old { refs = self.old.refs ++ name ∷ [] }) }
+        ensures ok { OnOk result (self.new ≡ record self.old { refs = self.old.refs ++ name ∷ [] }) }
+        ensures unchanged { OnErr result (self.new ≡ self.old) }
     {
         self.refs.push(name)?;
         Ok(())

@@ -2,5 +2,5 @@ use Rattle.std.proofs.Common.{arith}
 use Rattle.std.proofs.lemmas.Map.Text.{text_keys}
 use Rattle.sig_blobs.proofs.tokens.Tokens.add.Goals as goal
 
-pub returns : goal.returns
-returns c = λ other. grind (arith, text_keys)
+pub returns-clause-ok : goal.returns-clause-ok
+returns-clause-ok c = λ other. grind (arith, text_keys)
