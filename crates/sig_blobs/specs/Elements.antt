@@ -18,7 +18,7 @@ class = 0x12
 abbrev pub generic_inst : ℕ
 generic_inst = 0x15
 
--- R4 and R8
+-- ELEMENT_TYPE_R4 and ELEMENT_TYPE_R8
 abbrev pub is_float : ℕ → Bool
 is_float b = b == 0x0C || b == 0x0D
 
