@@ -1,0 +1,3 @@
+mod Examples
+mod ClashExamples
+mod PathLaws
