@@ -1,0 +1,12 @@
+pub mod File
+pub mod Size
+pub mod Layouts
+pub mod Spelling
+pub mod Outside
+pub mod Edits
+pub mod ShopEdits
+pub mod MixEdits
+pub mod Built
+pub mod BuiltLists
+pub mod BuiltTypes
+pub mod BuiltLimits
