@@ -1,3 +1,4 @@
 mod Examples
 mod ClashExamples
 mod PathLaws
+mod NameLaws
