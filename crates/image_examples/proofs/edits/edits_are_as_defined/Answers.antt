@@ -4,7 +4,7 @@ use Rattle.std.specs.Str.{chars, is_utf8}
 use Rattle.md_schema.specs.Tables.{upto, bits_set}
 use Rattle.md_tables.specs.Faults.{first_from, disorder}
 use Rattle.winmd_laws.specs.Examples.{shop_image}
-use Rattle.image_tests.proofs.defined.edits_are_as_defined.Goals as goal
+use Rattle.image_examples.proofs.edits.edits_are_as_defined.Goals as goal
 
 pub returns-clause-states : goal.returns-clause-states
 unfolding chars encode_utf8 is_utf8 upto bits_set first_from disorder shop_image

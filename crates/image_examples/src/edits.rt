@@ -1,7 +1,7 @@
 //! What the definition says of the edits of the example, on which the plain reader is tried too.
 
 ghost use Rattle.std.specs.Prelude.{◌≡◌, map};
-ghost use Rattle.image_tests.specs.Edits.{found, headers, others, rows, states, stream, wanted};
+ghost use Rattle.image_examples.specs.Edits.{found, headers, others, rows, states, stream, wanted};
 
 /// Each edited image states what stands beside it, or has that fault.
 pub fn edits_are_as_defined()
