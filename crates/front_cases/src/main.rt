@@ -4,43 +4,45 @@
 
 mod lexing;
 mod names;
+mod said;
 mod set_text;
 mod tree_text;
 mod trees;
 
-use std::alloc::{AllocError, Global};
+use std::alloc::AllocError;
 use std::io;
 
-// What the tools say of files.
-fn answer_of(alloc: Global, command: &str, case: &str) -> Result<String, AllocError> {
+fn answer_of(out: &mut String, command: &str, case: &str) -> Result<(), AllocError> {
     match command {
-        "lex" => lexing::lex(alloc, case),
-        "number" => lexing::number(alloc, case),
-        "tree" => trees::tree(alloc, case),
-        "ends" => trees::ends(alloc, case),
-        "ids" => trees::ids(alloc, case),
-        "names" => names::names(alloc, case),
-        _ => String::from_str(alloc, "no such command"),
+        "lex" => lexing::lex(out, case),
+        "number" => lexing::number(out, case),
+        "tree" => trees::tree(out, case),
+        "ends" => trees::ends(out, case),
+        "ids" => trees::ids(out, case),
+        "names" => names::names(out, case),
+        _ => out.push_str("no such command"),
     }
 }
 
 fn answer(rt: &HostRuntime, command: &str, case: &str) -> io::Result<()> {
-    match answer_of(rt.alloc(), command, case) {
-        Ok(text) => println!(rt; "{text}"),
+    let mut out = String::new(rt.alloc());
+    match answer_of(&mut out, command, case) {
+        Ok(()) => println!(rt; "{out}"),
         Err(_) => println!(rt; "no memory"),
+    }
+}
+
+fn line_answer(rt: &HostRuntime, line: &str) -> io::Result<()> {
+    let (command, case) = line.split_once(' ').unwrap_or((line, ""));
+    match command {
+        "#" => println!(rt; "{line}"),
+        _ => answer(rt, command, case),
     }
 }
 
 fn main(rt: HostRuntime) -> io::Result<()> {
     for line in rt.lines(rt.alloc()) {
-        let line = line?;
-        let text = line.as_str();
-        let (command, case) = text.split_once(' ').unwrap_or((text, ""));
-        if command == "#" {
-            println!(rt; "{text}")?;
-        } else {
-            answer(&rt, command, case)?;
-        }
+        line_answer(&rt, line?.as_str())?;
     }
     Ok(())
 }

@@ -1,6 +1,6 @@
 //! `names SOURCE|SOURCE ..` prints what files declare, or the first fault of their names.
 
-use crate::lexing::{stop_text, tokens_of};
+use crate::lexing::{push_stop, tokens_of};
 use crate::set_text::placed_text;
 use case_text::bytes_of;
 use midl_names::{Placed, resolve};
@@ -16,27 +16,27 @@ fn file_of(alloc: Global, number: u32, text: &str) -> Answer<File> {
     parse(alloc, number, &tokens_of(alloc, number, &bytes)?)
 }
 
-fn files_of(alloc: Global, case: &str) -> Answer<Vec<File>> {
-    let mut files = Vec::new(alloc);
-    if case.is_empty() {
-        return Ok(files);
-    }
+fn push_files(files: &mut Vec<File>, alloc: Global, case: &str) -> Answer<()> {
     let mut number = 0u32;
     for text in case.split('|') {
         files.push(file_of(alloc, number, text)?)?;
         number = number.wrapping_add(1);
     }
-    Ok(files)
+    Ok(())
 }
 
 fn declared_by(alloc: Global, case: &str) -> Answer<Placed> {
-    resolve(alloc, &files_of(alloc, case)?)
+    let mut files = Vec::new(alloc);
+    if !case.is_empty() {
+        push_files(&mut files, alloc, case)?;
+    }
+    resolve(alloc, &files)
 }
 
 /// The items, or the refusal.
-pub fn names(alloc: Global, case: &str) -> Result<String, AllocError> {
-    match declared_by(alloc, case) {
-        Ok(placed) => placed_text(alloc, &placed),
-        Err(stop) => stop_text(alloc, &stop),
+pub fn names(out: &mut String, case: &str) -> Result<(), AllocError> {
+    match declared_by(*out.allocator(), case) {
+        Ok(placed) => placed_text(out, &placed),
+        Err(stop) => push_stop(out, &stop),
     }
 }

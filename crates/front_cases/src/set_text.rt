@@ -2,7 +2,7 @@
 
 use case_text::{declaration, head, id_text, members, places, signature, uses};
 use midl_names::{Placed, PlacedItem, Signatures, Written, WrittenClass};
-use std::alloc::{AllocError, Global};
+use std::alloc::AllocError;
 
 fn constructors(out: &mut String, list: &Signatures) -> Result<(), AllocError> {
     for sig in list.as_slice() {
@@ -12,39 +12,47 @@ fn constructors(out: &mut String, list: &Signatures) -> Result<(), AllocError> {
     Ok(())
 }
 
-fn class(out: &mut String, one: &WrittenClass) -> Result<(), AllocError> {
+fn class_head(out: &mut String, one: &WrittenClass) -> Result<(), AllocError> {
     head(out, "class", one.name.as_str(), one.version)?;
-    if one.fixed {
-        out.push_str(" fixed")?;
-    }
-    if one.marked {
-        out.push_str(" marked")?;
-    }
-    uses(out, &one.listed)?;
+    out.push_str(if one.fixed { " fixed" } else { "" })?;
+    out.push_str(if one.marked { " marked" } else { "" })?;
+    uses(out, &one.listed)
+}
+
+fn class(out: &mut String, one: &WrittenClass) -> Result<(), AllocError> {
+    class_head(out, one)?;
     members(out, &one.members)?;
     out.push_str(" static")?;
     members(out, &one.statics)?;
     constructors(out, &one.constructors)
 }
 
+fn written(out: &mut String, one: &Written) -> Result<(), AllocError> {
+    match one {
+        Written::Done(done) => declaration(out, done),
+        Written::Class(written) => class(out, written),
+    }
+}
+
+fn stated_id(out: &mut String, id: Option<u128>) -> Result<(), AllocError> {
+    let Some(id) = id else {
+        return Ok(());
+    };
+    out.push_str(" id")?;
+    id_text(out, id)
+}
+
 fn item(out: &mut String, one: &PlacedItem) -> Result<(), AllocError> {
-    match &one.item {
-        Written::Done(done) => declaration(out, done)?,
-        Written::Class(written) => class(out, written)?,
-    }
-    if let Some(id) = one.id {
-        out.push_str(" id")?;
-        id_text(out, id)?;
-    }
-    places(out, &one.places)
+    written(out, &one.item)?;
+    stated_id(out, one.id)?;
+    places(out, &one.places)?;
+    out.push_str("|")
 }
 
 /// The items, each with a `|` behind it.
-pub fn placed_text(alloc: Global, list: &Placed) -> Result<String, AllocError> {
-    let mut out = String::new(alloc);
+pub fn placed_text(out: &mut String, list: &Placed) -> Result<(), AllocError> {
     for one in list.as_slice() {
-        item(&mut out, one)?;
-        out.push_str("|")?;
+        item(out, one)?;
     }
-    Ok(out)
+    Ok(())
 }

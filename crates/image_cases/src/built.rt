@@ -1,12 +1,18 @@
 //! `built NUMBER=ROW,ROW NUMBER=ROW ..;TEXTS;BLOBS` prints what the plain reader finds in an image with these tables and further entries of `#Strings` and
 //! `#Blob`. The bytes of rows are hexadecimal, and tables stand in the order of their numbers.
 
-use crate::images::found_text;
+use crate::images::push_found;
 use crate::parts::Parts;
 use crate::schema::table_of;
 use case_text::{bytes_of, halves, push_bytes};
 use md_schema::Table;
 use std::alloc::{AllocError, Global};
+
+fn push_row(parts: &mut Parts, alloc: Global, row: &str) -> Result<(), AllocError> {
+    let mut bytes = Vec::new(alloc);
+    push_bytes(&mut bytes, row)?;
+    parts.row(&bytes)
+}
 
 fn push_table(
     parts: &mut Parts,
@@ -16,9 +22,7 @@ fn push_table(
 ) -> Result<(), AllocError> {
     parts.begin(table, rows.split(',').count())?;
     for row in rows.split(',') {
-        let mut bytes = Vec::new(alloc);
-        push_bytes(&mut bytes, row)?;
-        parts.row(&bytes)?;
+        push_row(parts, alloc, row)?;
     }
     Ok(())
 }
@@ -33,13 +37,22 @@ fn push_tables(parts: &mut Parts, alloc: Global, tables: &str) -> Result<(), All
     Ok(())
 }
 
-/// What is found in the image.
-pub fn built(alloc: Global, base: &[u8], case: &str) -> Result<String, AllocError> {
+fn fill(parts: &mut Parts, alloc: Global, case: &str) -> Result<(), AllocError> {
     let (tables, rest) = halves(case);
     let (texts, blobs) = halves(rest);
+    parts.texts = bytes_of(alloc, texts)?;
+    parts.blobs = bytes_of(alloc, blobs)?;
+    push_tables(parts, alloc, tables)
+}
+
+fn image(alloc: Global, base: &[u8], case: &str) -> Result<Vec<u8>, AllocError> {
     let mut parts = Parts::new(alloc);
-    parts.texts.extend_from_slice(&bytes_of(alloc, texts)?)?;
-    parts.blobs.extend_from_slice(&bytes_of(alloc, blobs)?)?;
-    push_tables(&mut parts, alloc, tables)?;
-    found_text(alloc, &parts.image(alloc, base)?)
+    fill(&mut parts, alloc, case)?;
+    parts.image(alloc, base)
+}
+
+/// What is found in the image.
+pub fn built(out: &mut String, base: &[u8], case: &str) -> Result<(), AllocError> {
+    let image = image(*out.allocator(), base, case)?;
+    push_found(out, &image)
 }

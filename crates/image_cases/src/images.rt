@@ -1,11 +1,11 @@
 //! `base LENGTH;EDITS` says which image is edited: so many zeros with these edits. `edit OFFSET=BYTES|OFFSET=BYTES ..` prints what the plain reader finds in that
 //! image with edits, `cuts` what it finds at each shorter length. Offsets are hexadecimal.
 
-use crate::numbers::fault_text;
-use case_text::{bytes_of, decimal, halves, hexadecimal};
+use crate::numbers::push_fault;
+use case_text::{bytes_of, decimal, declaration, halves, hexadecimal};
 use plain_reader::{Unread, types_of};
 use std::alloc::{AllocError, Global};
-use wr_base::{Case, Declaration};
+use wr_base::Declaration;
 
 /// Writes bytes over those at an offset.
 pub fn write(image: &mut [u8], at: usize, bytes: &[u8]) {
@@ -16,12 +16,16 @@ pub fn write(image: &mut [u8], at: usize, bytes: &[u8]) {
     }
 }
 
+fn write_edit(image: &mut [u8], alloc: Global, edit: &str) -> Result<(), AllocError> {
+    let (offset, bytes) = edit.split_once('=').unwrap_or((edit, ""));
+    let bytes = bytes_of(alloc, bytes)?;
+    write(image, hexadecimal(offset) as usize, &bytes);
+    Ok(())
+}
+
 fn write_edits(image: &mut [u8], alloc: Global, edits: &str) -> Result<(), AllocError> {
     for edit in edits.split('|') {
-        if let Some((offset, bytes)) = edit.split_once('=') {
-            let bytes = bytes_of(alloc, bytes)?;
-            write(image, hexadecimal(offset) as usize, &bytes);
-        }
+        write_edit(image, alloc, edit)?;
     }
     Ok(())
 }
@@ -34,76 +38,78 @@ pub fn base(alloc: Global, case: &str) -> Result<Vec<u8>, AllocError> {
     Ok(image)
 }
 
-fn push_cases(out: &mut String, alloc: Global, cases: &[Case]) -> Result<(), AllocError> {
-    for case in cases {
-        let name = case.name.as_str();
-        let value = case.value;
-        out.push_str(format!(in alloc; " {name}={value}")?.as_str())?;
+fn push_types(out: &mut String, types: &[Declaration]) -> Result<(), AllocError> {
+    for one in types {
+        declaration(out, one)?;
+        out.push_str("|")?;
     }
     Ok(())
 }
 
-fn push_type(out: &mut String, alloc: Global, declaration: &Declaration) -> Result<(), AllocError> {
-    let Declaration::Enum {
-        name,
-        version,
-        flags,
-        cases,
-    } = declaration
-    else {
-        return out.push_str("another|");
-    };
-    let kind = if *flags { "flags" } else { "enum" };
-    let name = name.as_str();
-    out.push_str(format!(in alloc; "{kind} {name} {version}")?.as_str())?;
-    push_cases(out, alloc, cases.as_slice())?;
-    out.push_str("|")
+fn push_not_yet(out: &mut String, offset: u64) -> Result<(), AllocError> {
+    let alloc = *out.allocator();
+    out.push_str(format!(in alloc; "NotYet at {offset:x}")?.as_str())
 }
 
-fn types_text(alloc: Global, types: &[Declaration]) -> Result<String, AllocError> {
-    let mut out = String::new(alloc);
-    for declaration in types {
-        push_type(&mut out, alloc, declaration)?;
+fn push_unread(out: &mut String, unread: &Unread) -> Result<(), AllocError> {
+    match unread {
+        Unread::Fault(fault) => push_fault(out, fault),
+        Unread::NotYet { offset } => push_not_yet(out, *offset),
+        _ => out.push_str("memory"),
     }
-    Ok(out)
 }
 
 /// What the plain reader finds in an image: types, the first fault, or one that it doesn't read yet.
-pub fn found_text(alloc: Global, image: &[u8]) -> Result<String, AllocError> {
-    match types_of(alloc, image) {
-        Ok(types) => types_text(alloc, &types),
-        Err(Unread::Fault(fault)) => fault_text(alloc, &fault),
-        Err(Unread::NotYet { offset }) => format!(in alloc; "NotYet at {offset:x}"),
-        Err(_) => String::from_str(alloc, "memory"),
+pub fn push_found(out: &mut String, image: &[u8]) -> Result<(), AllocError> {
+    match types_of(*out.allocator(), image) {
+        Ok(types) => push_types(out, &types),
+        Err(unread) => push_unread(out, &unread),
     }
 }
 
 /// What is found in the edited image.
-pub fn edit(alloc: Global, base: &[u8], case: &str) -> Result<String, AllocError> {
+pub fn edit(out: &mut String, base: &[u8], case: &str) -> Result<(), AllocError> {
+    let alloc = *out.allocator();
     let mut image = base.to_vec(alloc)?;
     write_edits(image.as_mut_slice(), alloc, case)?;
-    found_text(alloc, &image)
+    push_found(out, &image)
 }
 
-fn push_change(
-    out: &mut String,
-    alloc: Global,
-    length: usize,
-    found: &str,
-) -> Result<(), AllocError> {
+fn found_in(alloc: Global, image: &[u8]) -> Result<String, AllocError> {
+    let mut found = String::new(alloc);
+    push_found(&mut found, image)?;
+    Ok(found)
+}
+
+fn push_change(out: &mut String, length: usize, found: &str) -> Result<(), AllocError> {
+    let alloc = *out.allocator();
     out.push_str(format!(in alloc; "{length:x}: {found}|")?.as_str())
 }
 
-/// What is found in the image at each length from 0 on, each with the first length at which it is.
-pub fn cuts(alloc: Global, base: &[u8]) -> Result<String, AllocError> {
-    let mut out = String::new(alloc);
-    let mut last = String::new(alloc);
-    for length in 0..base.len() {
-        let found = found_text(alloc, &base[..length])?;
-        if found.as_str() != last.as_str() {
-            push_change(&mut out, alloc, length, found.as_str())?;
-            last = found;
-        }
+// What is found at a length, where it is another than before.
+fn push_next(
+    out: &mut String,
+    last: &mut String,
+    length: usize,
+    found: String,
+) -> Result<(), AllocError> {
+    if found.as_str() != last.as_str() {
+        push_change(out, length, found.as_str())?;
+        *last = found;
     }
-    Ok(out)
+    Ok(())
+}
+
+fn push_cuts(out: &mut String, last: &mut String, base: &[u8]) -> Result<(), AllocError> {
+    for length in 0..base.len() {
+        let found = found_in(*last.allocator(), &base[..length])?;
+        push_next(out, last, length, found)?;
+    }
+    Ok(())
+}
+
+/// What is found in the image at each length from 0 on, each with the first length at which it is.
+pub fn cuts(out: &mut String, base: &[u8]) -> Result<(), AllocError> {
+    let mut last = String::new(*out.allocator());
+    push_cuts(out, &mut last, base)
 }

@@ -1,8 +1,8 @@
 //! `cases NAME;CASES;CONSTANTS` prints the sizes of the types that the plain reader finds in the image of `Shop.Size` with so many cases, each of the name at that
 //! index of `#Strings`, and with so many constants.
 
-use crate::images::found_text;
-use crate::parts::{Parts, put};
+use crate::images::push_found;
+use crate::parts::Parts;
 use case_text::{decimal, halves};
 use md_schema::Table;
 use plain_reader::types_of;
@@ -18,66 +18,66 @@ const VALUE: &[u8] = &[1, 6, 0x59, 0, 1, 0];
 /// `Shop.Size`, which extends row 1 of TypeRef.
 const SIZE_ROW: &[u8] = &[1, 0x41, 0, 0, 0x4F, 0, 0x54, 0, 5, 0, 1, 0, 1, 0];
 
-fn push_fields(parts: &mut Parts, alloc: Global, name: u64, cases: u32) -> Result<(), AllocError> {
+fn push_fields(parts: &mut Parts, name: u32, cases: u32) -> Result<(), AllocError> {
+    let [low, high, _, _] = name.to_le_bytes();
     parts.begin(Table::Field, (cases as usize).saturating_add(1))?;
     parts.row(VALUE)?;
-    let mut field = Vec::new(alloc);
-    put(&mut field, 0x8056, 2)?;
-    put(&mut field, name, 2)?;
-    put(&mut field, 4, 2)?;
     for _ in 0..cases {
-        parts.row(&field)?;
+        parts.row(&[0x56, 0x80, low, high, 4, 0])?;
     }
     Ok(())
 }
 
-// The constant 0 of row i + 2 of Field, which has tag 0 in two bits.
-fn push_constant(parts: &mut Parts, alloc: Global, i: u32) -> Result<(), AllocError> {
-    let mut constant = Vec::new(alloc);
-    put(&mut constant, 8, 2)?;
-    put(&mut constant, 4 * (i as u64 + 2), 2)?;
-    put(&mut constant, 0x0D, 2)?;
-    parts.row(&constant)
-}
-
-fn push_constants(parts: &mut Parts, alloc: Global, constants: u32) -> Result<(), AllocError> {
+// The constants 0 of the rows of Field from 2 on, which has tag 0 in two bits.
+fn push_constants(parts: &mut Parts, constants: u32) -> Result<(), AllocError> {
     parts.begin(Table::Constant, constants as usize)?;
     for i in 0..constants {
-        push_constant(parts, alloc, i)?;
+        let [low, high, _, _] = i.wrapping_add(2).wrapping_mul(4).to_le_bytes();
+        parts.row(&[8, 0, low, high, 0x0D, 0])?;
     }
     Ok(())
 }
 
-// The image; 600 letters and a zero stand behind the other texts.
-fn image(
-    alloc: Global,
-    base: &[u8],
-    name: u64,
-    cases: u32,
-    constants: u32,
-) -> Result<Vec<u8>, AllocError> {
-    let mut parts = Parts::new(alloc);
-    parts.texts = vec![in alloc; b'a'; 600]?;
-    parts.texts.push(0)?;
-    parts.begin(Table::TypeRef, 1)?;
-    parts.row(ENUM_REF)?;
-    parts.begin(Table::TypeDef, 1)?;
-    parts.row(SIZE_ROW)?;
-    push_fields(&mut parts, alloc, name, cases)?;
-    if constants > 0 {
-        push_constants(&mut parts, alloc, constants)?;
+// One row of a table.
+fn push_one(parts: &mut Parts, table: Table, row: &[u8]) -> Result<(), AllocError> {
+    parts.begin(table, 1)?;
+    parts.row(row)
+}
+
+// 600 letters and a zero.
+fn push_letters(texts: &mut Vec<u8>) -> Result<(), AllocError> {
+    for _ in 0..600u32 {
+        texts.push(b'a')?;
     }
+    texts.push(0)?;
+    Ok(())
+}
+
+// The letters stand behind the other texts.
+fn fill(parts: &mut Parts, case: &str) -> Result<(), AllocError> {
+    let (name, rest) = halves(case);
+    let (cases, constants) = halves(rest);
+    push_letters(&mut parts.texts)?;
+    push_one(parts, Table::TypeRef, ENUM_REF)?;
+    push_one(parts, Table::TypeDef, SIZE_ROW)?;
+    push_fields(parts, decimal(name), decimal(cases))?;
+    match decimal(constants) {
+        0 => Ok(()),
+        count => push_constants(parts, count),
+    }
+}
+
+fn image(alloc: Global, base: &[u8], case: &str) -> Result<Vec<u8>, AllocError> {
+    let mut parts = Parts::new(alloc);
+    fill(&mut parts, case)?;
     parts.image(alloc, base)
 }
 
-fn push_lengths(
-    out: &mut String,
-    alloc: Global,
-    declaration: &Declaration,
-) -> Result<(), AllocError> {
+fn push_lengths(out: &mut String, declaration: &Declaration) -> Result<(), AllocError> {
     let Declaration::Enum { name, cases, .. } = declaration else {
         return out.push_str("another|");
     };
+    let alloc = *out.allocator();
     let name = name.as_str().len();
     let count = cases.as_slice().len();
     let first = cases
@@ -87,27 +87,22 @@ fn push_lengths(
     out.push_str(format!(in alloc; "name {name} cases {count} first {first}|")?.as_str())
 }
 
-fn lengths_text(alloc: Global, types: &[Declaration]) -> Result<String, AllocError> {
-    let mut out = String::new(alloc);
+fn push_all_lengths(out: &mut String, types: &[Declaration]) -> Result<(), AllocError> {
     for declaration in types {
-        push_lengths(&mut out, alloc, declaration)?;
+        push_lengths(out, declaration)?;
     }
-    Ok(out)
+    Ok(())
+}
+
+fn push_read(out: &mut String, image: &[u8]) -> Result<(), AllocError> {
+    match types_of(*out.allocator(), image) {
+        Ok(types) => push_all_lengths(out, &types),
+        Err(_) => push_found(out, image),
+    }
 }
 
 /// How long the name of each type is, how many cases it has, and how long the name of the first is; or the fault.
-pub fn cases(alloc: Global, base: &[u8], case: &str) -> Result<String, AllocError> {
-    let (name, rest) = halves(case);
-    let (cases, constants) = halves(rest);
-    let image = image(
-        alloc,
-        base,
-        decimal(name) as u64,
-        decimal(cases),
-        decimal(constants),
-    )?;
-    match types_of(alloc, &image) {
-        Ok(types) => lengths_text(alloc, &types),
-        Err(_) => found_text(alloc, &image),
-    }
+pub fn cases(out: &mut String, base: &[u8], case: &str) -> Result<(), AllocError> {
+    let image = image(*out.allocator(), base, case)?;
+    push_read(out, &image)
 }

@@ -14,92 +14,98 @@ mod schema;
 mod streams;
 mod wide;
 
-use std::alloc::{AllocError, Global};
+use std::alloc::AllocError;
 use std::io;
 
 // What is said of numbers and heaps.
-fn answer_of(alloc: Global, command: &str, case: &str) -> Result<String, AllocError> {
+fn answer_of(out: &mut String, command: &str, case: &str) -> Result<(), AllocError> {
     match command {
-        "put" => numbers::put(alloc, case),
-        "get" => numbers::get(alloc, case),
-        "shortest" => numbers::shortest(alloc, case),
-        "compressed" => numbers::integer(alloc, case),
-        "text" => heaps::text(alloc, case),
-        "blob" => heaps::blob(alloc, case),
-        "guid" => heaps::guid(alloc, case),
-        _ => answer_of_heap(alloc, command, case),
+        "put" => numbers::put(out, case),
+        "get" => numbers::get(out, case),
+        "shortest" => numbers::shortest(out, case),
+        "compressed" => numbers::integer(out, case),
+        "text" => heaps::text(out, case),
+        "blob" => heaps::blob(out, case),
+        "guid" => heaps::guid(out, case),
+        _ => answer_of_heap(out, command, case),
     }
 }
 
-fn answer_of_heap(alloc: Global, command: &str, case: &str) -> Result<String, AllocError> {
+fn answer_of_heap(out: &mut String, command: &str, case: &str) -> Result<(), AllocError> {
     match command {
-        "texts" => heap_texts::texts(alloc, case),
-        "blobs" => heap_texts::blobs(alloc, case),
-        "guids" => heap_texts::guids(alloc, case),
-        "numbered" => heap_texts::numbered(alloc, case),
-        _ => answer_of_schema(alloc, command, case),
+        "texts" => heap_texts::texts(out, case),
+        "blobs" => heap_texts::blobs(out, case),
+        "guids" => heap_texts::guids(out, case),
+        "numbered" => heap_texts::numbered(out, case),
+        _ => answer_of_schema(out, command, case),
     }
 }
 
-fn answer_of_schema(alloc: Global, command: &str, case: &str) -> Result<String, AllocError> {
+fn answer_of_schema(out: &mut String, command: &str, case: &str) -> Result<(), AllocError> {
     match command {
-        "table" => schema::table(alloc, case),
-        "columns" => schema::columns_of(alloc, case),
-        "tags" => schema::tags(alloc, case),
-        "decode" => schema::decoded(alloc, case),
-        "encode" => schema::encoded(alloc, case),
-        "widths" => schema::widths(alloc, case),
-        _ => answer_of_stream(alloc, command, case),
+        "table" => schema::table(out, case),
+        "columns" => schema::columns_of(out, case),
+        "tags" => schema::tags(out, case),
+        "decode" => schema::decoded(out, case),
+        "encode" => schema::encoded(out, case),
+        "widths" => schema::widths(out, case),
+        _ => answer_of_stream(out, command, case),
     }
 }
 
-fn answer_of_stream(alloc: Global, command: &str, case: &str) -> Result<String, AllocError> {
+fn answer_of_stream(out: &mut String, command: &str, case: &str) -> Result<(), AllocError> {
     match command {
-        "write" => streams::write(alloc, case),
-        "read" => streams::read(alloc, case),
-        "shorter" => streams::shorter(alloc, case),
-        "row" => streams::row(alloc, case),
-        "wide" => wide::wide(alloc, case),
-        _ => String::from_str(alloc, "no such command"),
+        "write" => streams::write(out, case),
+        "read" => streams::read(out, case),
+        "shorter" => streams::shorter(out, case),
+        "row" => streams::row(out, case),
+        "wide" => wide::wide(out, case),
+        _ => out.push_str("no such command"),
     }
 }
 
 // What is said of images; `base` is the image that edits are of.
 fn answer_of_image(
-    alloc: Global,
+    out: &mut String,
     base: &[u8],
     command: &str,
     case: &str,
-) -> Result<String, AllocError> {
+) -> Result<(), AllocError> {
     match command {
-        "edit" => images::edit(alloc, base, case),
-        "cuts" => images::cuts(alloc, base),
-        "built" => built::built(alloc, base, case),
-        "cases" => limits::cases(alloc, base, case),
-        _ => answer_of(alloc, command, case),
+        "edit" => images::edit(out, base, case),
+        "cuts" => images::cuts(out, base),
+        "built" => built::built(out, base, case),
+        "cases" => limits::cases(out, base, case),
+        _ => answer_of(out, command, case),
     }
 }
 
-fn say(rt: &HostRuntime, answer: Result<String, AllocError>) -> io::Result<()> {
-    match answer {
-        Ok(text) => println!(rt; "{text}"),
+fn answer(rt: &HostRuntime, base: &[u8], command: &str, case: &str) -> io::Result<()> {
+    let mut out = String::new(rt.alloc());
+    match answer_of_image(&mut out, base, command, case) {
+        Ok(()) => println!(rt; "{out}"),
         Err(_) => println!(rt; "no memory"),
+    }
+}
+
+fn set_base(base: &mut Vec<u8>, case: &str) -> io::Result<()> {
+    *base = images::base(*base.allocator(), case)?;
+    Ok(())
+}
+
+fn line_answer(rt: &HostRuntime, base: &mut Vec<u8>, line: &str) -> io::Result<()> {
+    let (command, case) = line.split_once(' ').unwrap_or((line, ""));
+    match command {
+        "#" => println!(rt; "{line}"),
+        "base" => set_base(base, case),
+        _ => answer(rt, base, command, case),
     }
 }
 
 fn main(rt: HostRuntime) -> io::Result<()> {
     let mut base = Vec::new(rt.alloc());
     for line in rt.lines(rt.alloc()) {
-        let line = line?;
-        let text = line.as_str();
-        let (command, case) = text.split_once(' ').unwrap_or((text, ""));
-        if command == "#" {
-            println!(rt; "{text}")?;
-        } else if command == "base" {
-            base = images::base(rt.alloc(), case)?;
-        } else {
-            say(&rt, answer_of_image(rt.alloc(), &base, command, case))?;
-        }
+        line_answer(&rt, &mut base, line?.as_str())?;
     }
     Ok(())
 }

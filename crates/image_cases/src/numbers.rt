@@ -5,53 +5,64 @@ use case_text::{bytes_of, decimal, halves, push_runs};
 use md_bytes::{number, put_number};
 use md_heaps::{compressed, put_compressed};
 use md_schema::ImageFault;
-use std::alloc::{AllocError, Global};
+use std::alloc::AllocError;
 
 /// The fault, and where it is.
-pub fn fault_text(alloc: Global, fault: &ImageFault) -> Result<String, AllocError> {
+pub fn push_fault(out: &mut String, fault: &ImageFault) -> Result<(), AllocError> {
+    let alloc = *out.allocator();
     let kind = fault.kind;
     let offset = fault.offset;
-    format!(in alloc; "{kind:?} at {offset:x}")
+    out.push_str(format!(in alloc; "{kind:?} at {offset:x}")?.as_str())
 }
 
-/// The bytes.
-pub fn bytes_text(alloc: Global, bytes: &[u8]) -> Result<String, AllocError> {
-    let mut out = String::new(alloc);
-    push_runs(&mut out, bytes)?;
-    Ok(out)
+/// The number, and what stands behind it.
+pub fn push_number(out: &mut String, number: u64, behind: &str) -> Result<(), AllocError> {
+    let alloc = *out.allocator();
+    out.push_str(format!(in alloc; "{number}{behind}")?.as_str())
 }
 
 /// The bytes of a number in so many bytes.
-pub fn put(alloc: Global, case: &str) -> Result<String, AllocError> {
+pub fn put(out: &mut String, case: &str) -> Result<(), AllocError> {
     let (width, number) = halves(case);
-    let mut bytes = Vec::new(alloc);
+    let mut bytes = Vec::new(*out.allocator());
     put_number(&mut bytes, decimal(width), decimal(number) as u64)?;
-    bytes_text(alloc, &bytes)
+    push_runs(out, &bytes)
+}
+
+fn push_value(out: &mut String, bytes: &[u8]) -> Result<(), AllocError> {
+    if bytes.len() > 4 {
+        return out.push_str("too many bytes");
+    }
+    push_number(out, number(bytes) as u64, "")
 }
 
 /// The number that up to four bytes are.
-pub fn get(alloc: Global, case: &str) -> Result<String, AllocError> {
-    let bytes = bytes_of(alloc, case)?;
-    if bytes.len() > 4 {
-        return String::from_str(alloc, "too many bytes");
-    }
-    format!(in alloc; "{}", number(&bytes))
+pub fn get(out: &mut String, case: &str) -> Result<(), AllocError> {
+    let bytes = bytes_of(*out.allocator(), case)?;
+    push_value(out, &bytes)
 }
 
 /// The shortest form of a number.
-pub fn shortest(alloc: Global, case: &str) -> Result<String, AllocError> {
+pub fn shortest(out: &mut String, case: &str) -> Result<(), AllocError> {
     let value = decimal(case);
-    let mut bytes = Vec::new(alloc);
-    if value < 0x2000_0000 {
-        put_compressed(&mut bytes, value)?;
+    if value >= 0x2000_0000 {
+        return Ok(());
     }
-    bytes_text(alloc, &bytes)
+    let mut bytes = Vec::new(*out.allocator());
+    put_compressed(&mut bytes, value)?;
+    push_runs(out, &bytes)
+}
+
+fn push_integer(out: &mut String, bytes: &[u8]) -> Result<(), AllocError> {
+    let alloc = *out.allocator();
+    match compressed(bytes) {
+        Ok((value, length)) => out.push_str(format!(in alloc; "{value} {length}")?.as_str()),
+        Err(fault) => push_fault(out, &fault),
+    }
 }
 
 /// The number that stands in front, and how many bytes it has.
-pub fn integer(alloc: Global, case: &str) -> Result<String, AllocError> {
-    match compressed(&bytes_of(alloc, case)?) {
-        Ok((value, length)) => format!(in alloc; "{value} {length}"),
-        Err(fault) => fault_text(alloc, &fault),
-    }
+pub fn integer(out: &mut String, case: &str) -> Result<(), AllocError> {
+    let bytes = bytes_of(*out.allocator(), case)?;
+    push_integer(out, &bytes)
 }

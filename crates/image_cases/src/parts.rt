@@ -28,8 +28,8 @@ pub struct Parts {
     pub blobs: Vec<u8>,
 }
 
-/// A number in so many bytes, low byte first.
-pub fn put(out: &mut Vec<u8>, number: u64, width: u32) -> Result<(), AllocError> {
+// A number in so many bytes, low byte first.
+fn put(out: &mut Vec<u8>, number: u64, width: u32) -> Result<(), AllocError> {
     let mut rest = number;
     for _ in 0..width {
         out.push((rest % 256) as u8)?;
@@ -38,24 +38,36 @@ pub fn put(out: &mut Vec<u8>, number: u64, width: u32) -> Result<(), AllocError>
     Ok(())
 }
 
-/// A number in four bytes.
-fn four(alloc: Global, number: usize) -> Result<Vec<u8>, AllocError> {
-    let mut bytes = Vec::new(alloc);
-    put(&mut bytes, number as u64, 4)?;
-    Ok(bytes)
+// A number in four bytes.
+fn four(number: usize) -> [u8; 4] {
+    let [a, b, c, d, _, _, _, _] = (number as u64).to_le_bytes();
+    [a, b, c, d]
 }
 
-/// Bytes of the image of `Shop.Size`, and others behind them.
-fn extended(
-    alloc: Global,
-    shop: &[u8],
-    place: (usize, usize),
-    others: &[u8],
-) -> Result<Vec<u8>, AllocError> {
-    let mut bytes = Vec::new(alloc);
-    bytes.extend_from_slice(shop.get(place.0..place.1).unwrap_or(&[]))?;
-    bytes.extend_from_slice(others)?;
-    Ok(bytes)
+// Bytes of the image of `Shop.Size`.
+fn part(shop: &[u8], place: (usize, usize)) -> &[u8] {
+    shop.get(place.0..place.1).unwrap_or(&[])
+}
+
+// The place in the metadata and the size of a stream, in its header.
+fn write_header(image: &mut [u8], header: usize, at: usize, length: usize) {
+    write(image, header, &four(at));
+    write(image, header.saturating_add(4), &four(length));
+}
+
+// A stream of two parts, and where it ends in the metadata.
+fn put_stream(
+    image: &mut Vec<u8>,
+    header: usize,
+    at: usize,
+    first: &[u8],
+    second: &[u8],
+) -> Result<usize, AllocError> {
+    let length = first.len().saturating_add(second.len());
+    write_header(image.as_mut_slice(), header, at, length);
+    image.extend_from_slice(first)?;
+    image.extend_from_slice(second)?;
+    Ok(at.saturating_add(length))
 }
 
 impl Parts {
@@ -82,35 +94,46 @@ impl Parts {
     }
 
     /// The stream `#~`, with indices of two bytes into the heaps.
-    fn stream(&self, alloc: Global) -> Result<Vec<u8>, AllocError> {
-        let mut stream = Vec::new(alloc);
+    fn put_tables(&self, stream: &mut Vec<u8>) -> Result<(), AllocError> {
         stream.extend_from_slice(&[0, 0, 0, 0, 2, 0, 0, 1])?;
-        put(&mut stream, self.valid, 8)?;
-        put(&mut stream, 0, 8)?;
+        put(stream, self.valid, 8)?;
+        put(stream, 0, 8)?;
         stream.extend_from_slice(&self.counts)?;
-        stream.extend_from_slice(&self.rows)?;
+        stream.extend_from_slice(&self.rows)
+    }
+
+    fn tables(&self, alloc: Global) -> Result<Vec<u8>, AllocError> {
+        let mut stream = Vec::new(alloc);
+        self.put_tables(&mut stream)?;
         Ok(stream)
+    }
+
+    // The three streams, and where they end in the metadata.
+    fn put_streams(
+        &self,
+        image: &mut Vec<u8>,
+        base: &[u8],
+        tables: &[u8],
+    ) -> Result<usize, AllocError> {
+        let at = put_stream(image, 0x270, END - ROOT, tables, &[])?;
+        let at = put_stream(image, 0x27C, at, part(base, TEXTS), &self.texts)?;
+        put_stream(image, 0x2AC, at, part(base, BLOBS), &self.blobs)
+    }
+
+    fn extend(&self, image: &mut Vec<u8>, base: &[u8]) -> Result<(), AllocError> {
+        let tables = self.tables(*image.allocator())?;
+        let size = self.put_streams(image, base, &tables)?;
+        // The size of the metadata, and that of the section, which begins with the CLI header of 72 bytes.
+        write(image.as_mut_slice(), 0x20C, &four(size));
+        write(image.as_mut_slice(), 0x188, &four(size.saturating_add(72)));
+        Ok(())
     }
 
     /// The image.
     pub fn image(&self, alloc: Global, base: &[u8]) -> Result<Vec<u8>, AllocError> {
         let mut image = base.to_vec(alloc)?;
-        let texts = extended(alloc, &image, TEXTS, &self.texts)?;
-        let blobs = extended(alloc, &image, BLOBS, &self.blobs)?;
-        let stream = self.stream(alloc)?;
         image.truncate(END);
-        let mut size = END - ROOT;
-        // The header of each of the three streams, its place in the metadata and its size, and its bytes.
-        for (header, bytes) in [(0x270usize, &stream), (0x27C, &texts), (0x2AC, &blobs)] {
-            write(image.as_mut_slice(), header, &four(alloc, size)?);
-            write(image.as_mut_slice(), header + 4, &four(alloc, bytes.len())?);
-            image.extend_from_slice(bytes)?;
-            size = size.saturating_add(bytes.len());
-        }
-        // The size of the metadata, and that of the section, which begins with the CLI header of 72 bytes.
-        write(image.as_mut_slice(), 0x20C, &four(alloc, size)?);
-        let raw_size = size.saturating_add(72);
-        write(image.as_mut_slice(), 0x188, &four(alloc, raw_size)?);
+        self.extend(&mut image, base)?;
         Ok(image)
     }
 }

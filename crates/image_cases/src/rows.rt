@@ -40,7 +40,7 @@ pub fn push(set: &mut TableSet, table: Table, cells: &[u32]) -> Result<(), Alloc
 }
 
 /// The cells of a row.
-pub fn cells_of(alloc: Global, text: &str) -> Result<Vec<u32>, AllocError> {
+fn cells_of(alloc: Global, text: &str) -> Result<Vec<u32>, AllocError> {
     let mut cells = Vec::new(alloc);
     for cell in text.split(',') {
         cells.push(decimal(cell))?;
@@ -48,14 +48,26 @@ pub fn cells_of(alloc: Global, text: &str) -> Result<Vec<u32>, AllocError> {
     Ok(cells)
 }
 
+/// Adds a row with these cells; none where there is no cell.
+pub fn push_spelled(
+    set: &mut TableSet,
+    alloc: Global,
+    table: Table,
+    cells: &str,
+) -> Result<(), AllocError> {
+    if cells.is_empty() {
+        return Ok(());
+    }
+    let cells = cells_of(alloc, cells)?;
+    push(set, table, &cells)
+}
+
 /// Adds each row.
 pub fn push_rows(set: &mut TableSet, alloc: Global, text: &str) -> Result<(), AllocError> {
     for part in text.split('|') {
         let (number, cells) = part.split_once(':').unwrap_or((part, ""));
-        if let Some(table) = table_of(number)
-            && !cells.is_empty()
-        {
-            push(set, table, &cells_of(alloc, cells)?)?;
+        if let Some(table) = table_of(number) {
+            push_spelled(set, alloc, table, cells)?;
         }
     }
     Ok(())

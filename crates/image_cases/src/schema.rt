@@ -1,12 +1,13 @@
 //! The schema: `table NUMBER`, `columns NUMBER`, `tags INDEX`, `decode INDEX;CELL`, `encode INDEX;NUMBER;ROW` and `widths HEAPS;NUMBER=ROWS ..`. Numbers of
 //! tables are hexadecimal.
 
+use crate::numbers::push_number;
 use case_text::{decimal, halves, hexadecimal};
 use md_schema::{
     CUSTOM_ATTRIBUTE_TYPE, CodedIndex, Column, HAS_CUSTOM_ATTRIBUTE, Sizes, TYPE_DEF_OR_REF, Table,
     bits, choices, columns, decode, width,
 };
-use std::alloc::{AllocError, Global};
+use std::alloc::AllocError;
 
 /// The table of this number.
 pub fn table_of(text: &str) -> Option<Table> {
@@ -14,16 +15,22 @@ pub fn table_of(text: &str) -> Option<Table> {
 }
 
 /// The name of the table of a number, where there is one.
-pub fn table(alloc: Global, case: &str) -> Result<String, AllocError> {
+pub fn table(out: &mut String, case: &str) -> Result<(), AllocError> {
+    let alloc = *out.allocator();
     let found = table_of(case);
-    format!(in alloc; "{found:?}")
+    out.push_str(format!(in alloc; "{found:?}")?.as_str())
+}
+
+fn push_columns(out: &mut String, table: Table) -> Result<(), AllocError> {
+    let alloc = *out.allocator();
+    out.push_str(format!(in alloc; "{:?}", columns(table))?.as_str())
 }
 
 /// The columns of a table.
-pub fn columns_of(alloc: Global, case: &str) -> Result<String, AllocError> {
+pub fn columns_of(out: &mut String, case: &str) -> Result<(), AllocError> {
     match table_of(case) {
-        Some(table) => format!(in alloc; "{:?}", columns(table)),
-        None => String::from_str(alloc, "no table"),
+        Some(table) => push_columns(out, table),
+        None => out.push_str("no table"),
     }
 }
 
@@ -59,40 +66,42 @@ fn index_of(name: &str) -> Option<CodedIndex> {
     }
 }
 
-fn push_tag(
-    out: &mut String,
-    alloc: Global,
-    index: CodedIndex,
-    tag: u32,
-) -> Result<(), AllocError> {
+fn push_tag(out: &mut String, index: CodedIndex, tag: u32) -> Result<(), AllocError> {
+    let alloc = *out.allocator();
     match decode(index, tag) {
         Ok((table, _)) => out.push_str(format!(in alloc; " {:02x}", table.number())?.as_str()),
         Err(_) => out.push_str(" -"),
     }
 }
 
-/// How many bits the tag of a coded index has, how many tags there are, and the number of the table of each.
-pub fn tags(alloc: Global, case: &str) -> Result<String, AllocError> {
-    let Some(index) = index_of(case) else {
-        return String::from_str(alloc, "no index");
-    };
+fn push_tags(out: &mut String, index: CodedIndex) -> Result<(), AllocError> {
     let count = choices(index).len() as u32;
-    let mut out = format!(in alloc; "{} {count}:", bits(index))?;
+    push_number(out, bits(index) as u64, " ")?;
+    push_number(out, count as u64, ":")?;
     for tag in 0..count {
-        push_tag(&mut out, alloc, index, tag)?;
+        push_tag(out, index, tag)?;
     }
-    Ok(out)
+    Ok(())
+}
+
+/// How many bits the tag of a coded index has, how many tags there are, and the number of the table of each.
+pub fn tags(out: &mut String, case: &str) -> Result<(), AllocError> {
+    match index_of(case) {
+        Some(index) => push_tags(out, index),
+        None => out.push_str("no index"),
+    }
 }
 
 /// The table and the row that a cell names.
-pub fn decoded(alloc: Global, case: &str) -> Result<String, AllocError> {
+pub fn decoded(out: &mut String, case: &str) -> Result<(), AllocError> {
+    let alloc = *out.allocator();
     let (name, cell) = halves(case);
     let found = match name {
         "TypeDefOrRef" => TYPE_DEF_OR_REF.decode(decimal(cell)),
         "CustomAttributeType" => CUSTOM_ATTRIBUTE_TYPE.decode(decimal(cell)),
         _ => HAS_CUSTOM_ATTRIBUTE.decode(decimal(cell)),
     };
-    format!(in alloc; "{found:?}")
+    out.push_str(format!(in alloc; "{found:?}")?.as_str())
 }
 
 fn code_of(name: &str, table: Table, row: u32) -> Option<u32> {
@@ -103,13 +112,18 @@ fn code_of(name: &str, table: Table, row: u32) -> Option<u32> {
     }
 }
 
+fn push_code(out: &mut String, code: Option<u32>) -> Result<(), AllocError> {
+    let alloc = *out.allocator();
+    out.push_str(format!(in alloc; "{code:?}")?.as_str())
+}
+
 /// The cell that names a row of a table.
-pub fn encoded(alloc: Global, case: &str) -> Result<String, AllocError> {
+pub fn encoded(out: &mut String, case: &str) -> Result<(), AllocError> {
     let (name, rest) = halves(case);
     let (number, row) = halves(rest);
     match table_of(number) {
-        Some(table) => format!(in alloc; "{:?}", code_of(name, table, decimal(row))),
-        None => String::from_str(alloc, "no table"),
+        Some(table) => push_code(out, code_of(name, table, decimal(row))),
+        None => out.push_str("no table"),
     }
 }
 
@@ -143,13 +157,18 @@ static COLUMNS: [Column; 9] = [
     Column::Coded(CodedIndex::TypeDefOrRef),
 ];
 
+fn push_width(out: &mut String, sizes: &Sizes, column: Column) -> Result<(), AllocError> {
+    out.push_str(" ")?;
+    push_number(out, width(sizes, column) as u64, "")
+}
+
 /// How many bytes a cell has: one, two, four, of the three heaps, of a row of Field, of MethodDef, and of TypeDefOrRef; and how many rows TypeDef has.
-pub fn widths(alloc: Global, case: &str) -> Result<String, AllocError> {
+pub fn widths(out: &mut String, case: &str) -> Result<(), AllocError> {
     let (heaps, counts) = halves(case);
     let sizes = sizes_of(heaps, counts);
-    let mut out = format!(in alloc; "{}:", sizes.count(Table::TypeDef))?;
+    push_number(out, sizes.count(Table::TypeDef) as u64, ":")?;
     for column in &COLUMNS {
-        out.push_str(format!(in alloc; " {}", width(&sizes, *column))?.as_str())?;
+        push_width(out, &sizes, *column)?;
     }
-    Ok(out)
+    Ok(())
 }

@@ -1,71 +1,86 @@
 //! The stream of tables: `write HEAPS;ROWS` prints its bytes, `read BYTES` the rows in it, `shorter BYTES` what it is at each shorter length, and `row BYTES;INDEX` a
 //! row of TypeDef.
 
-use crate::numbers::{bytes_text, fault_text};
+use crate::numbers::push_fault;
 use crate::rows::push_rows;
-use case_text::{bytes_of, decimal, halves};
+use case_text::{bytes_of, decimal, halves, push_runs};
 use md_schema::{ImageFault, ImageKind, TABLES, Table};
 use md_tables::{TableSet, TableView, is_writable, read_tables, write_tables};
 use ranked::Stop;
 use std::alloc::{AllocError, Global};
 
 /// A set with long indices into these heaps.
-pub fn set_of(alloc: Global, heaps: &str) -> Result<TableSet, AllocError> {
+fn set_of(alloc: Global, heaps: &str) -> Result<TableSet, AllocError> {
     let texts = heaps.contains("texts");
     let guids = heaps.contains("guids");
     let blobs = heaps.contains("blobs");
     TableSet::new(alloc, texts, guids, blobs)
 }
 
+fn push_stream(out: &mut String, set: &TableSet) -> Result<(), AllocError> {
+    if !is_writable(set) {
+        return out.push_str("no stream");
+    }
+    let bytes = write_tables(*out.allocator(), set)?;
+    push_runs(out, &bytes)
+}
+
 /// The bytes of the stream of these rows.
-pub fn write(alloc: Global, case: &str) -> Result<String, AllocError> {
+pub fn write(out: &mut String, case: &str) -> Result<(), AllocError> {
+    let alloc = *out.allocator();
     let (heaps, rows) = halves(case);
     let mut set = set_of(alloc, heaps)?;
     push_rows(&mut set, alloc, rows)?;
-    if !is_writable(&set) {
-        return String::from_str(alloc, "no stream");
-    }
-    bytes_text(alloc, &write_tables(alloc, &set)?)
+    push_stream(out, &set)
+}
+
+fn push_cell(out: &mut String, cell: u32) -> Result<(), AllocError> {
+    let alloc = *out.allocator();
+    out.push_str(format!(in alloc; " {cell}")?.as_str())
 }
 
 /// Adds the cells of a row.
-pub fn push_cells(out: &mut String, alloc: Global, cells: &[u32]) -> Result<(), AllocError> {
+pub fn push_cells(out: &mut String, cells: &[u32]) -> Result<(), AllocError> {
     for cell in cells {
-        out.push_str(format!(in alloc; " {cell}")?.as_str())?;
+        push_cell(out, *cell)?;
     }
     out.push_str("|")
 }
 
-fn push_table(
-    out: &mut String,
-    alloc: Global,
-    view: &TableView,
-    table: Table,
-) -> Result<(), AllocError> {
+fn push_name(out: &mut String, table: Table) -> Result<(), AllocError> {
+    let alloc = *out.allocator();
+    out.push_str(format!(in alloc; "{table:?}")?.as_str())
+}
+
+fn push_table(out: &mut String, view: &TableView, table: Table) -> Result<(), AllocError> {
     if view.count(table) > 0 {
-        out.push_str(format!(in alloc; "{table:?}")?.as_str())?;
+        push_name(out, table)?;
     }
     for cells in view.rows(table) {
-        push_cells(out, alloc, cells.as_slice())?;
+        push_cells(out, cells.as_slice())?;
     }
     Ok(())
 }
 
-fn view_text(alloc: Global, view: &TableView) -> Result<String, AllocError> {
-    let mut out = String::new(alloc);
+fn push_view(out: &mut String, view: &TableView) -> Result<(), AllocError> {
     for table in &TABLES {
-        push_table(&mut out, alloc, view, *table)?;
+        push_table(out, view, *table)?;
     }
-    Ok(out)
+    Ok(())
+}
+
+fn push_read(out: &mut String, bytes: &[u8]) -> Result<(), AllocError> {
+    match read_tables(*out.allocator(), bytes) {
+        Ok(view) => push_view(out, &view),
+        Err(Stop::Refused(fault)) => push_fault(out, &fault),
+        Err(Stop::Memory) => out.push_str("memory"),
+    }
 }
 
 /// The rows in the stream, or its first fault.
-pub fn read(alloc: Global, case: &str) -> Result<String, AllocError> {
-    match read_tables(alloc, &bytes_of(alloc, case)?) {
-        Ok(view) => view_text(alloc, &view),
-        Err(Stop::Refused(fault)) => fault_text(alloc, &fault),
-        Err(Stop::Memory) => String::from_str(alloc, "memory"),
-    }
+pub fn read(out: &mut String, case: &str) -> Result<(), AllocError> {
+    let bytes = bytes_of(*out.allocator(), case)?;
+    push_read(out, &bytes)
 }
 
 fn is_short(alloc: Global, bytes: &[u8]) -> bool {
@@ -79,9 +94,8 @@ fn is_short(alloc: Global, bytes: &[u8]) -> bool {
     }
 }
 
-/// At how many shorter lengths the stream has the fault ShortTable at its end, and at how many it hasn't.
-pub fn shorter(alloc: Global, case: &str) -> Result<String, AllocError> {
-    let bytes = bytes_of(alloc, case)?;
+fn push_short(out: &mut String, bytes: &[u8]) -> Result<(), AllocError> {
+    let alloc = *out.allocator();
     let mut short = 0u32;
     let mut other = 0u32;
     for length in 0..bytes.len() {
@@ -91,23 +105,32 @@ pub fn shorter(alloc: Global, case: &str) -> Result<String, AllocError> {
             other = other.saturating_add(1);
         }
     }
-    format!(in alloc; "{short} short, {other} not")
+    out.push_str(format!(in alloc; "{short} short, {other} not")?.as_str())
 }
 
-fn row_text(alloc: Global, view: &TableView, index: u32) -> Result<String, AllocError> {
-    let mut out = String::new(alloc);
+/// At how many shorter lengths the stream has the fault ShortTable at its end, and at how many it hasn't.
+pub fn shorter(out: &mut String, case: &str) -> Result<(), AllocError> {
+    let bytes = bytes_of(*out.allocator(), case)?;
+    push_short(out, &bytes)
+}
+
+fn push_row(out: &mut String, view: &TableView, index: u32) -> Result<(), AllocError> {
     match view.row::<6>(Table::TypeDef, index) {
-        Ok(row) => push_cells(&mut out, alloc, row.cells.as_slice())?,
-        Err(fault) => return fault_text(alloc, &fault),
+        Ok(row) => push_cells(out, row.cells.as_slice()),
+        Err(fault) => push_fault(out, &fault),
     }
-    Ok(out)
+}
+
+fn push_row_of(out: &mut String, bytes: &[u8], index: u32) -> Result<(), AllocError> {
+    match read_tables(*out.allocator(), bytes) {
+        Ok(view) => push_row(out, &view, index),
+        Err(_) => out.push_str("refused"),
+    }
 }
 
 /// The row of TypeDef of an index.
-pub fn row(alloc: Global, case: &str) -> Result<String, AllocError> {
+pub fn row(out: &mut String, case: &str) -> Result<(), AllocError> {
     let (bytes, index) = halves(case);
-    match read_tables(alloc, &bytes_of(alloc, bytes)?) {
-        Ok(view) => row_text(alloc, &view, decimal(index)),
-        Err(_) => String::from_str(alloc, "refused"),
-    }
+    let bytes = bytes_of(*out.allocator(), bytes)?;
+    push_row_of(out, &bytes, decimal(index))
 }
