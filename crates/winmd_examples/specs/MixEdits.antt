@@ -45,7 +45,7 @@ structs =
 
 abbrev pub instances : List Edited
 instances =
-    -- An argument of R4; two arguments of a template of one; none; a template that is a value type.
+    -- An argument of ELEMENT_TYPE_R4; two arguments of a template of one; none; a template that is a value type.
     (byte 0xAD4 0x0C, fault kinds.FloatType 0x692) ∷
     (byte 0xAD3 2, fault kinds.SigElement 0x692) ∷
     (byte 0xAD3 0, fault kinds.SigElement 0x692) ∷

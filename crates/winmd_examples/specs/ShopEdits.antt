@@ -48,7 +48,7 @@ delegates =
     -- Its parameter is the second; has no name.
     (cell 0x4CE 2, fault kinds.BadShape 0x430) ∷
     (cell 0x4D0 0, fault kinds.BadShape 0x4D0) ∷
-    -- The signature: a parameter of R4, and of no type; another convention; a byte less, and one more; past the heap; a length of no form.
+    -- The signature: a parameter of ELEMENT_TYPE_R4, and of no type; another convention; a byte less, and one more; past the heap; a length of no form.
     (byte 0x8DA 0x0C, fault kinds.FloatType 0x42E) ∷
     (byte 0x8DA 0x01, fault kinds.SigElement 0x42E) ∷
     (byte 0x8D7 0x00, fault kinds.SigElement 0x42E) ∷
@@ -170,7 +170,7 @@ cases_from first = first ∷ case_of (codes "Medium") (pos 5) ∷ case_of (codes
 
 abbrev pub enums : List Edited
 enums =
-    -- The field of the value: another name; the flag of a case; another beside it; of the enum's own type; of R4.
+    -- The field of the value: another name; the flag of a case; another beside it; of the enum's own type; of ELEMENT_TYPE_R4.
     (cell 0x400 0x140, fault kinds.BadShape 0x400) ∷
     (cell 0x3FE 0x0641, fault kinds.BadShape 0x3FA) ∷
     (cell 0x404 0x0016, fault kinds.BadShape 0x3FA) ∷
