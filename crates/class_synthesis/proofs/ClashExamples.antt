@@ -11,9 +11,9 @@ use Rattle.wr_base.specs.declared.type_use.TypeUse.TheVariants.{Plain}
 use Rattle.wr_base.specs.declared.declaration.Member.{Member}
 use Rattle.wr_base.specs.declared.declaration.Member.TheVariants.{Property}
 use Rattle.wr_base.specs.declared.declaration.Declaration.TheVariants.{Interface}
-use Rattle.midl_names.specs.declared.placed.WrittenClass.{WrittenClass}
-use Rattle.midl_names.specs.declared.placed.Written.TheVariants as written
-use Rattle.midl_names.specs.declared.placed.PlacedItem.{PlacedItem}
+use Rattle.placed_items.specs.declared.placed.WrittenClass.{WrittenClass}
+use Rattle.placed_items.specs.declared.placed.Written.TheVariants as written
+use Rattle.placed_items.specs.declared.placed.PlacedItem.{PlacedItem}
 use Rattle.class_synthesis.specs.Clashes.{IsClash, IsTaken, MadeBefore, has_lower}
 
 abbrev at : ℕ → Place

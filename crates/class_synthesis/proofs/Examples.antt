@@ -12,7 +12,7 @@ use Rattle.wr_base.specs.declared.declaration.Signature.{Signature}
 use Rattle.wr_base.specs.declared.declaration.Member.{Member}
 use Rattle.wr_base.specs.declared.declaration.Member.TheVariants.{Method, Property, Event}
 use Rattle.wr_base.specs.declared.declaration.Declaration.TheVariants.{Delegate, Interface, Class}
-use Rattle.midl_names.specs.declared.placed.WrittenClass.{WrittenClass}
+use Rattle.placed_items.specs.declared.placed.WrittenClass.{WrittenClass}
 use Rattle.wr_rules.specs.Signatures.{named_id}
 use Rattle.class_synthesis.specs.Made.{made_name, class_sites, factory_name, factory_method, factory_methods, takes_some, makes_default, with_id}
 use Rattle.class_synthesis.specs.Clashes.{names_made, has_lower}

@@ -8,12 +8,13 @@ use Rattle.wr_base.specs.declared.places.DeclPlaces.{DeclPlaces}
 use Rattle.wr_base.specs.declared.declaration.Declaration.{Declaration}
 use Rattle.wr_base.specs.declared.declaration.Declaration.TheVariants.{Enum, Struct, Delegate, Interface, Class}
 use Rattle.wr_rules.specs.Sites.{Site, site_name}
-use Rattle.midl_names.specs.declared.placed.WrittenClass.{WrittenClass}
-use Rattle.midl_names.specs.declared.placed.Written.{Written}
-use Rattle.midl_names.specs.declared.placed.Written.TheVariants as written
-use Rattle.midl_names.specs.declared.placed.PlacedItem.{PlacedItem}
+use Rattle.placed_items.specs.declared.placed.WrittenClass.{WrittenClass}
+use Rattle.placed_items.specs.declared.placed.Written.{Written}
+use Rattle.placed_items.specs.declared.placed.Written.TheVariants as written
+use Rattle.placed_items.specs.declared.placed.PlacedItem.{PlacedItem}
 use Rattle.class_synthesis.specs.Made.{where_, makes_default, makes_statics, makes_factory, default_site, statics_site, factory_site, made_sites, with_id, sites_by, item_sites}
-use Rattle.class_synthesis.specs.Clashes.{names_made, made_by, written_name}
+use Rattle.placed_items.specs.Items.{written_name}
+use Rattle.class_synthesis.specs.Clashes.{names_made, made_by}
 use Rattle.class_synthesis.specs.Full.{raw}
 
 -- an id changes no name

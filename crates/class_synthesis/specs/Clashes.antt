@@ -4,14 +4,14 @@ use Rattle.std.specs.List.{list_any}
 use Rattle.ranked.specs.Entries.{Entry}
 use Rattle.ranked.specs.First.{Below, At, Among, Only}
 use Rattle.wr_base.specs.Codes.{rank_of}
-use Rattle.wr_base.specs.Declarations.{name_of}
 use Rattle.wr_base.specs.declared.code.Code.TheVariants.{SynthesisClash}
 use Rattle.found_table.specs.Table.{table, name_of as found_name}
 use Rattle.wr_rules.specs.NameRules.{same_lower}
-use Rattle.midl_names.specs.declared.placed.WrittenClass.{WrittenClass}
-use Rattle.midl_names.specs.declared.placed.Written.{Written}
-use Rattle.midl_names.specs.declared.placed.Written.TheVariants as written
-use Rattle.midl_names.specs.declared.placed.PlacedItem.{PlacedItem}
+use Rattle.placed_items.specs.declared.placed.WrittenClass.{WrittenClass}
+use Rattle.placed_items.specs.declared.placed.Written.{Written}
+use Rattle.placed_items.specs.declared.placed.Written.TheVariants as written
+use Rattle.placed_items.specs.declared.placed.PlacedItem.{PlacedItem}
+use Rattle.placed_items.specs.Items.{written_names}
 use Rattle.class_synthesis.specs.Made.{made_name, makes_default, statics_of, factories_of, where_}
 
 -- the names of the interfaces that are made of a class
@@ -22,11 +22,6 @@ names_made c = where_ (makes_default c) (made_name c.name []) ++ statics_of c ++
 abbrev pub made_by : Written → List (List ℕ)
 made_by (written.Done d) = []
 made_by (written.Class c) = names_made c
-
--- the name that an item declares
-abbrev pub written_name : Written → List ℕ
-written_name (written.Done d) = name_of d
-written_name (written.Class c) = c.name
 
 -- the name stands in the list, but for ASCII case
 abbrev pub has_lower : List (List ℕ) → List ℕ → Bool
@@ -42,7 +37,7 @@ pub record MadeBefore (items : List PlacedItem) (k : ℕ) (name : List ℕ) : Ty
 
 -- a written type, a found one or an interface of an earlier class has this name, which the item at k makes
 abbrev pub IsTaken : List PlacedItem → ℕ → List ℕ → Type 0
-IsTaken items k name = IsTrue (has_lower (map (λ (i : PlacedItem). written_name i.item) items) name) ⊎ IsTrue (has_lower (map found_name table) name) ⊎ MadeBefore items k name
+IsTaken items k name = IsTrue (has_lower (written_names items) name) ⊎ IsTrue (has_lower (map found_name table) name) ⊎ MadeBefore items k name
 
 -- at the class's name, with the made name as word; of two classes at the later
 abbrev pub IsClash : List PlacedItem → Entry → Type 0

@@ -7,7 +7,7 @@ use Rattle.wr_base.specs.Normal.{normal}
 use Rattle.wr_base.specs.declared.declaration.Declaration.{Declaration}
 use Rattle.wr_base.specs.declared.places.DeclPlaces.{DeclPlaces}
 use Rattle.wr_rules.specs.Sites.{Site, sites_of}
-use Rattle.midl_names.specs.declared.placed.PlacedItem.{PlacedItem}
+use Rattle.placed_items.specs.declared.placed.PlacedItem.{PlacedItem}
 use Rattle.closed_lists.specs.Closures.{IsClosing}
 use Rattle.class_synthesis.specs.Made.{item_sites}
 

@@ -15,10 +15,10 @@ use Rattle.wr_base.specs.declared.type_use.TypeUse.TheVariants.{Reference}
 use Rattle.wr_rules.specs.ListRules.{is_empty}
 use Rattle.wr_rules.specs.Signatures.{named_id}
 use Rattle.wr_rules.specs.Sites.{Site}
-use Rattle.midl_names.specs.declared.placed.WrittenClass.{WrittenClass}
-use Rattle.midl_names.specs.declared.placed.Written.{Written}
-use Rattle.midl_names.specs.declared.placed.Written.TheVariants as written
-use Rattle.midl_names.specs.declared.placed.PlacedItem.{PlacedItem}
+use Rattle.placed_items.specs.declared.placed.WrittenClass.{WrittenClass}
+use Rattle.placed_items.specs.declared.placed.Written.{Written}
+use Rattle.placed_items.specs.declared.placed.Written.TheVariants as written
+use Rattle.placed_items.specs.declared.placed.PlacedItem.{PlacedItem}
 
 -- I, the class's own name and this word, in the class's namespace
 abbrev pub made_name : List ℕ → List ℕ → List ℕ

@@ -3,9 +3,10 @@
 use crate::lexing::{push_stop, tokens_of};
 use crate::set_text::placed_text;
 use case_text::bytes_of;
-use midl_names::{Placed, resolve};
+use midl_names::resolve;
 use midl_parse::parse;
 use midl_tree::File;
+use placed_items::Placed;
 use std::alloc::{AllocError, Global};
 use wr_base::{Refusal, Stop};
 

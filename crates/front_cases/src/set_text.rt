@@ -1,7 +1,7 @@
 //! What files declare as a text that is short enough to be written by hand: a piece for each item, with the offsets of its name and of its parts.
 
 use case_text::{declaration, head, id_text, members, places, signature, uses};
-use midl_names::{Placed, PlacedItem, Signatures, Written, WrittenClass};
+use placed_items::{Placed, PlacedItem, Signatures, Written, WrittenClass};
 use std::alloc::AllocError;
 
 fn constructors(out: &mut String, list: &Signatures) -> Result<(), AllocError> {

@@ -5,7 +5,7 @@ use Rattle.ranked.specs.Entries.{Entry}
 use Rattle.ranked.specs.First.{IsFirst, Clear}
 use Rattle.ranked.proofs.FirstLaws.{unique}
 use Rattle.midl_names.specs.declared.sort.Sort.{Sort}
-use Rattle.midl_names.specs.declared.placed.PlacedItem.{PlacedItem}
+use Rattle.placed_items.specs.declared.placed.PlacedItem.{PlacedItem}
 use Rattle.midl_names.specs.Items.{Item, Source, items_of}
 use Rattle.midl_names.specs.Lookup.{declared_sort}
 use Rattle.midl_names.specs.Names.{Broken, Names}

@@ -4,7 +4,7 @@ use Rattle.ranked.specs.Entries.{Entry}
 use Rattle.ranked.specs.First.{IsFirst}
 use Rattle.ranked.specs.declared.stop.Stop.{Stop}
 use Rattle.ranked.specs.declared.stop.Stop.TheVariants.{Refused, Memory}
-use Rattle.midl_names.specs.declared.placed.PlacedItem.{PlacedItem}
+use Rattle.placed_items.specs.declared.placed.PlacedItem.{PlacedItem}
 use Rattle.midl_names.specs.Items.{Source}
 use Rattle.midl_names.specs.Names.{Names}
 

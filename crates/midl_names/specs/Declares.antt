@@ -14,10 +14,10 @@ use Rattle.midl_lex.specs.Numbers.{value_of}
 use Rattle.midl_tree.specs.declared.terminal.Terminal.{Terminal}
 use Rattle.midl_tree.specs.Trees.{EnumTree, AttributeTree, uuid, version, flags, default_interface, MemberTree, method, event, properties, property, ClassMemberTree, member, constructor, StructTree, DelegateTree, InterfaceTree, ClassTree, DeclTree, enumeration, structure, delegate, interface, class}
 use Rattle.midl_names.specs.declared.sort.Sort.{Sort}
-use Rattle.midl_names.specs.declared.placed.WrittenClass.{WrittenClass}
-use Rattle.midl_names.specs.declared.placed.Written.{Written}
-use Rattle.midl_names.specs.declared.placed.Written.TheVariants.{Done, Class}
-use Rattle.midl_names.specs.declared.placed.PlacedItem.{PlacedItem}
+use Rattle.placed_items.specs.declared.placed.WrittenClass.{WrittenClass}
+use Rattle.placed_items.specs.declared.placed.Written.{Written}
+use Rattle.placed_items.specs.declared.placed.Written.TheVariants.{Done, Class}
+use Rattle.placed_items.specs.declared.placed.PlacedItem.{PlacedItem}
 use Rattle.midl_names.specs.Items.{Item, Source, items_of, own_name, full_name}
 use Rattle.midl_names.specs.Attributes.{id_bytes}
 use Rattle.midl_names.specs.Lookup.{declared_sort}

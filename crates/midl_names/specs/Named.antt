@@ -5,9 +5,9 @@ use Rattle.wr_base.specs.Paths.{is_identifier}
 use Rattle.wr_base.specs.declared.declaration.Case.{Case}
 use Rattle.wr_base.specs.declared.declaration.Declaration.{Declaration}
 use Rattle.wr_base.specs.declared.declaration.Declaration.TheVariants.{Enum}
-use Rattle.midl_names.specs.declared.placed.PlacedItem.{PlacedItem}
-use Rattle.midl_names.specs.declared.placed.Written.{Written}
-use Rattle.midl_names.specs.declared.placed.Written.TheVariants.{Done, Class}
+use Rattle.placed_items.specs.declared.placed.PlacedItem.{PlacedItem}
+use Rattle.placed_items.specs.declared.placed.Written.{Written}
+use Rattle.placed_items.specs.declared.placed.Written.TheVariants.{Done, Class}
 
 -- an identifier of at most 255 bytes
 pub record IsName (text : List ℕ) : Type 0 where

@@ -17,7 +17,6 @@ mod marks;
 mod members;
 mod parts;
 mod paths;
-mod placed;
 mod refuse;
 mod resolved;
 mod resolving;
@@ -28,5 +27,4 @@ mod use_faults;
 mod uses;
 mod written;
 
-pub use placed::{Placed, PlacedItem, Signatures, Written, WrittenClass};
 pub use resolving::resolve;

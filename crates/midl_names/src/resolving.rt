@@ -12,7 +12,6 @@ ghost use Rattle.midl_names.specs.Views.{sources_of};
 use crate::faults::faults;
 use crate::index::index_of;
 use crate::items::items_of;
-use crate::placed::Placed;
 use crate::written::placed;
 use midl_tree::File;
 use std::alloc::Global;

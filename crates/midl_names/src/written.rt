@@ -15,7 +15,6 @@ use crate::index::Index;
 use crate::marks::{has_flags, has_mark, id_of, version_of};
 use crate::members::{fields_of, push_members};
 use crate::parts::places_of;
-use crate::placed::{Placed, PlacedItem, Signatures, Written, WrittenClass};
 use crate::resolved::{resolved_list, signature_of};
 use crate::scope::Scope;
 use crate::scoped::Scoped;
@@ -23,6 +22,7 @@ use midl_tree::{
     ClassMemberNode, ClassNode, DeclNode, DelegateNode, EnumNode, InterfaceNode, MemberNode,
     StructNode,
 };
+use placed_items::{Placed, PlacedItem, Signatures, Written, WrittenClass};
 use std::alloc::Global;
 use wr_base::{Declaration, Listed, Member, Members, Memory, Signature};
 

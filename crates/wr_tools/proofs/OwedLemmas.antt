@@ -8,7 +8,7 @@ use Rattle.wr_base.specs.declared.declaration.Declaration.{Declaration}
 use Rattle.wr_outside.specs.Files.{Files}
 use Rattle.midl_tree.specs.declared.nodes.File.{File}
 use Rattle.midl_tree.specs.Views.{source_view}
-use Rattle.midl_names.specs.declared.placed.PlacedItem.{PlacedItem}
+use Rattle.placed_items.specs.declared.placed.PlacedItem.{PlacedItem}
 use Rattle.midl_names.specs.Declares.{Declares}
 use Rattle.midl_names.specs.Items.{Source as Tree}
 use Rattle.midl_names.specs.Names.{Names}

@@ -5,8 +5,8 @@ use Rattle.std.specs.List.{list_all}
 use Rattle.wr_base.specs.declared.declaration.Declaration.{Declaration}
 use Rattle.midl_tree.specs.declared.nodes.File.{File}
 use Rattle.midl_tree.specs.Views.{source_view}
-use Rattle.midl_names.specs.declared.placed.PlacedItem.{PlacedItem}
-use Rattle.midl_names.specs.declared.placed.Written.TheVariants.{Done}
+use Rattle.placed_items.specs.declared.placed.PlacedItem.{PlacedItem}
+use Rattle.placed_items.specs.declared.placed.Written.TheVariants.{Done}
 use Rattle.wr_tools.specs.Bare.{source_is_bare}
 use Rattle.wr_tools.specs.SmallEnum.{IsSmallEnum}
 use Rattle.wr_tools.specs.Sets.{Image}

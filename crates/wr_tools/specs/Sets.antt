@@ -2,8 +2,8 @@
 use Rattle.std.specs.Prelude.{◌≡◌, ℕ, ◌+◌, List, [], ◌∷◌, IsTrue, Ok}
 use Rattle.std.specs.List.{list_all}
 use Rattle.wr_base.specs.declared.declaration.Declaration.{Declaration}
-use Rattle.midl_names.specs.declared.placed.PlacedItem.{PlacedItem}
-use Rattle.midl_names.specs.declared.placed.Written.TheVariants.{Done}
+use Rattle.placed_items.specs.declared.placed.PlacedItem.{PlacedItem}
+use Rattle.placed_items.specs.declared.placed.Written.TheVariants.{Done}
 use Rattle.midl_names.specs.Items.{Source}
 use Rattle.midl_names.specs.Declares.{Declares}
 use Rattle.source_set.specs.Found.{Read}

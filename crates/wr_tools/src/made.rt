@@ -7,8 +7,8 @@ ghost use Rattle.wr_tools.specs.Made.{Makes, MakesItem, MakesOne, bytes_of};
 use crate::bare::are_bare;
 use crate::small::is_small_enum;
 use enum_image::enum_image;
-use midl_names::{PlacedItem, Written};
 use midl_tree::File;
+use placed_items::{PlacedItem, Written};
 use std::alloc::Global;
 use wr_base::{Declaration, Memory};
 

@@ -1,7 +1,7 @@
 use Rattle.std.proofs.Common.{arith}
 use Rattle.std.specs.BTreeMap.{get_by_text}
 use Rattle.std.proofs.lemmas.List.Elements.{All-push}
-use Rattle.midl_names.specs.declared.placed.PlacedItem.{PlacedItem}
+use Rattle.placed_items.specs.declared.placed.PlacedItem.{PlacedItem}
 use Rattle.midl_names.specs.Declares.{placed_of}
 use Rattle.midl_names.specs.Named.{WrittenIsNamed}
 use Rattle.midl_names.specs.Views.{item_of}

@@ -1,7 +1,7 @@
 use Rattle.std.proofs.Common.{◌≡◌, map, refl, sym, ap, subst, ◌∙◌, string_bytes, List, append-nil}
 use Rattle.ranked.specs.First.{Clear}
 use Rattle.midl_tree.specs.declared.nodes.File.{File}
-use Rattle.midl_names.specs.declared.placed.PlacedItem.{PlacedItem}
+use Rattle.placed_items.specs.declared.placed.PlacedItem.{PlacedItem}
 use Rattle.midl_names.specs.Declares.{Declares}
 use Rattle.midl_names.specs.Names.{Names}
 use Rattle.midl_names.specs.Answers.{RefusedFirst}
