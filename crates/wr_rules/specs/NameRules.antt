@@ -75,6 +75,10 @@ is_instance _ = false
 abbrev pub instances_at : Site → List UseTree
 instances_at s = flat_map (λ (u : Used). filter_map (λ v. if is_instance v then Some v else None) (within u.use_)) (uses_at s)
 
+-- the instances that a set uses, declaration by declaration
+abbrev pub instances_in : List Site → List UseTree
+instances_in = flat_map instances_at
+
 -- a declaration uses an instance of this text
 abbrev pub UsesText : List Site → ℕ → List ℕ → Type 0
 UsesText sites k text = (s : Site) × (v : UseTree) × (slice_get sites k ≡ Some s) × Contains (instances_at s) v × (text_of_tree v ≡ text)
@@ -84,11 +88,15 @@ abbrev pub first_of : List UseTree → List ℕ → Option UseTree
 first_of [] text = None
 first_of (v ∷ vs) text = if bytes_eq (text_of_tree v) text then Some v else first_of vs text
 
--- an id with the text of what has it, at the declaration that has it or is the first to use it
+-- this declaration uses an instance of this text, and none before it does
+pub record FirstUses (sites : List Site) (k : ℕ) (text : List ℕ) : Type 0 where
+  pub uses : UsesText sites k text
+  pub none : (j : ℕ) → StandsBefore sites j k → ¬ (UsesText sites j text)
+
+-- an id with the text of what has it, at the declaration that has it or is the first to use it; the id of a text is that of its first use in the set
 pub data Stands (types : List Declaration) (sites : List Site) (k : ℕ) : List ℕ → ℕ → Type 0 where
   own : {id : ℕ} (s : Site) → slice_get sites k ≡ Some s → own_id (Some (declared s.decl)) ≡ Some id → Stands types sites k (site_name s) id
-  first_used : {id : ℕ} (s : Site) (v : UseTree) → slice_get sites k ≡ Some s → first_of (instances_at s) (text_of_tree v) ≡ Some v → id_of types v ≡ Some id
-      → ((j : ℕ) → StandsBefore sites j k → ¬ (UsesText sites j (text_of_tree v))) → Stands types sites k (text_of_tree v) id
+  first_used : {text : List ℕ} {id : ℕ} (v : UseTree) → first_of (instances_in sites) text ≡ Some v → id_of types v ≡ Some id → FirstUses sites k text → Stands types sites k text id
 
 -- an id is reserved, or another one's that stands at an earlier declaration or at the same
 abbrev pub IsTaken : List Declaration → List Site → ℕ → Type 0
