@@ -1,0 +1,156 @@
+-- One stamp more, and one owner more.
+use Rattle.std.proofs.Common.{◌≡◌, ◌≢◌, ◌<◌, ◌≤◌, ◌+◌, ◌^◌, ◌↔◌, ℕ, zero, suc, Bool, false, IsTrue, List, [], ◌∷◌, ◌⊎◌, inl, inr, ⊎_elim, sym, ap, subst, ◌∙◌, arith, take, set, get_or, length, true≢false}
+use Rattle.std.proofs.lemmas.List.{get_or-set_same, get_or-set_other}
+use Rattle.chains.specs.Graphs.{In, steps_of}
+use Rattle.chains.proofs.Members.{is_in}
+use Rattle.chains.proofs.Marking.{same_or_not, next_in, still_in, now_in}
+use Rattle.stamps.specs.Shared.{stamp_in, Stamped, Shared}
+use Rattle.stamps.specs.Within.{Outside, LeadsOut}
+
+module _ (stamps now first : List ℕ) (list : List ℕ) (i x m : ℕ) (l : i < length list) (e : x ≡ get_or list i 0) (within : x < length stamps) (is : now ≡ set stamps x m) where
+  pub here_more : ((a : ℕ) → In a (take i list) → stamp_in stamps a ≡ m) → (a : ℕ) → In a (take (i + 1) list) → stamp_in now a ≡ m
+  here_more h a t = ap (λ ms. stamp_in ms a) is ∙ ⊎_elim (λ q. subst (λ y. stamp_in (set stamps x m) y ≡ m) q (get_or-set_same stamps x m 0 within))
+      (λ q. get_or-set_other stamps x a m 0 (λ p. q (sym p)) ∙ ⊎_elim (λ y. h a y) (λ y. absurd (q y)) (next_in list i x a l e t)) (same_or_not x a)
+
+  pub there_more : ((a : ℕ) → (In a (take i list) → ⊥) → stamp_in stamps a ≡ stamp_in first a) → (a : ℕ) → (In a (take (i + 1) list) → ⊥) → stamp_in now a ≡ stamp_in first a
+  there_more h a t =
+      ap (λ ms. stamp_in ms a) is
+      ∙ get_or-set_other stamps x a m 0 (λ p. t (subst (λ y. In y (take (i + 1) list)) (sym p) (now_in list i x l e)))
+      ∙ h a (λ y. t (still_in list i x a l y))
+
+-- one is another's that is stamped
+abbrev pub Other : ℕ → ℕ → ℕ → Type 0
+Other floor mine stamp = (floor < stamp) × (stamp ≢ mine)
+
+module _ (floor mine : ℕ) (first stamps : List ℕ) (list : List ℕ) (i x : ℕ) (l : i < length list) (e : x ≡ get_or list i 0)
+    (here : (a : ℕ) → In a (take i list) → stamp_in stamps a ≡ mine) (there : (a : ℕ) → (In a (take i list) → ⊥) → stamp_in stamps a ≡ stamp_in first a) where
+  stamped_on : Stamped floor mine first (take i list) → Stamped floor mine first (take (i + 1) list)
+  stamped_on s = record { x = s.x; of_list = still_in list i x s.x l s.of_list; above = s.above; other = s.other }
+
+  stamped_now : Other floor mine (stamp_in stamps x) → Stamped floor mine first (take (i + 1) list)
+  stamped_now o = ⊎_elim (λ a. absurd (o.1 (here x a))) (λ n. (let t = there x n in
+      record { x = x; of_list = now_in list i x l e; above = subst (λ s. floor < s) t o.0; other = λ q. o.1 (t ∙ q) })) (is_in x (take i list))
+
+  stamped_back : Stamped floor mine first (take (i + 1) list) → Stamped floor mine first (take i list) ⊎ Other floor mine (stamp_in stamps x)
+  stamped_back s = ⊎_elim
+      (λ a. inl (record { x = s.x; of_list = a; above = s.above; other = s.other }))
+      (λ q. ⊎_elim
+      (λ a. inl (record { x = s.x; of_list = subst (λ y. In y (take i list)) q a; above = s.above; other = s.other }))
+      (λ n. (let t : stamp_in stamps x ≡ stamp_in first s.x = there x n ∙ ap (stamp_in first) q in
+      inr (subst (λ y. floor < y) (sym t) s.above, λ p. s.other (sym t ∙ p)))) (is_in x (take i list)))
+      (next_in list i x s.x l e s.of_list)
+
+  pub met_more : (met both other : Bool) → IsTrue met ↔ Stamped floor mine first (take i list) → IsTrue other ↔ Other floor mine (stamp_in stamps x) → IsTrue both ↔ (IsTrue met ⊎ IsTrue other)
+      → IsTrue both ↔ Stamped floor mine first (take (i + 1) list)
+  met_more met both other m o b = (
+    λ h. ⊎_elim (λ t. stamped_on (m.0 t)) (λ t. stamped_now (o.0 t)) (b.0 h),
+    λ s. b.1 (⊎_elim (λ t. inl (m.1 t)) (λ t. inr (o.1 t)) (stamped_back s)),
+  )
+
+-- the owners so far
+pub record Going (owned : List (List ℕ)) (floor : ℕ) (set : List ℕ) (stamps : List ℕ) (found : Bool) : Type 0 where
+  pub upto : (x : ℕ) → stamp_in stamps x ≤ floor + 2 ^ 32
+  pub whose : (x : ℕ) → floor < stamp_in stamps x → (a : ℕ) × In a set × In x (steps_of owned a) × (stamp_in stamps x ≡ floor + a + 1)
+  pub all_ : (a x : ℕ) → In a set → In x (steps_of owned a) → floor < stamp_in stamps x
+  pub told : IsTrue found ↔ Shared owned set
+
+pub going_none : (owned : List (List ℕ)) (floor : ℕ) (stamps : List ℕ) → ((x : ℕ) → stamp_in stamps x ≤ floor) → Going owned floor [] stamps false
+going_none owned floor stamps h = record {
+  upto = λ x. (let k = h x in omega (arith, k));
+  whose = λ x l. (let k = h x in absurd (omega (arith, k, l)));
+  all_ = λ a x i s. absurd i;
+  told = (λ e. cc, λ s. absurd s.first);
+}
+
+module _ (owned : List (List ℕ)) (floor : ℕ) (list : List ℕ) (i a : ℕ) (l : i < length list) (e : a ≡ get_or list i 0) (low : a + 1 ≤ 2 ^ 32) (old new : List ℕ) (found both met : Bool)
+    (g : Going owned floor (take i list) old found)
+    (m : IsTrue met ↔ Stamped floor (floor + a + 1) old (steps_of owned a))
+    (here : (x : ℕ) → In x (steps_of owned a) → stamp_in new x ≡ floor + a + 1)
+    (there : (x : ℕ) → (In x (steps_of owned a) → ⊥) → stamp_in new x ≡ stamp_in old x)
+    (b : IsTrue both ↔ (IsTrue found ⊎ IsTrue met)) where
+  shared_on : Shared owned (take i list) → Shared owned (take (i + 1) list)
+  shared_on s = record { a = s.a; b = s.b; first = still_in list i a s.a l s.first; second = still_in list i a s.b l s.second; apart = s.apart; thing = s.thing; of_first = s.of_first; of_second = s.of_second }
+
+  shared_now : Stamped floor (floor + a + 1) old (steps_of owned a) → Shared owned (take (i + 1) list)
+  shared_now s = let w = g.whose s.x s.above in record {
+    a = w.0;
+    b = a;
+    first = still_in list i a w.0 l w.1;
+    second = now_in list i a l e;
+    apart = λ q. s.other (w.3 ∙ ap (λ y. floor + y + 1) q);
+    thing = s.x;
+    of_first = w.2;
+    of_second = s.of_list;
+  }
+
+  -- an earlier owner shares with this one
+  one_old : (q x : ℕ) → In q (take i list) → q ≢ a → In x (steps_of owned q) → In x (steps_of owned a) → Shared owned (take i list) ⊎ Stamped floor (floor + a + 1) old (steps_of owned a)
+  one_old q x iq n xq xa =
+      let above = g.all_ q x iq xq in
+      let w = g.whose x above in
+      ⊎_elim
+      (λ same. inl (record { a = q; b = a; first = iq; second = subst (λ y. In y (take i list)) same w.1; apart = n; thing = x; of_first = xq; of_second = xa }))
+      (λ apart. inr (record { x = x; of_list = xa; above = above; other = λ p. apart (let r = sym w.3 ∙ p in omega (arith, r)) }))
+      (same_or_not w.0 a)
+
+  shared_back : Shared owned (take (i + 1) list) → Shared owned (take i list) ⊎ Stamped floor (floor + a + 1) old (steps_of owned a)
+  shared_back s = ⊎_elim
+      (λ ia. ⊎_elim
+      (λ ib. inl (record { a = s.a; b = s.b; first = ia; second = ib; apart = s.apart; thing = s.thing; of_first = s.of_first; of_second = s.of_second }))
+      (λ qb. one_old s.a s.thing ia (λ p. s.apart (p ∙ qb)) s.of_first (subst (λ y. In s.thing (steps_of owned y)) (sym qb) s.of_second))
+      (next_in list i a s.b l e s.second))
+      (λ qa. ⊎_elim
+      (λ ib. one_old s.b s.thing ib (λ p. s.apart (sym (p ∙ qa))) s.of_second (subst (λ y. In s.thing (steps_of owned y)) (sym qa) s.of_first))
+      (λ qb. absurd (s.apart (sym qa ∙ qb)))
+      (next_in list i a s.b l e s.second))
+      (next_in list i a s.a l e s.first)
+
+  pub going_more : Going owned floor (take (i + 1) list) new both
+  going_more = record {
+    upto = λ x. ⊎_elim (λ h. (let t = here x h in omega (arith, t, low))) (λ n. (let t = there x n in let u = g.upto x in omega (arith, t, u))) (is_in x (steps_of owned a));
+    whose = λ x above. ⊎_elim
+        (λ h. (a, now_in list i a l e, h, here x h))
+        (λ n. (let w = g.whose x (subst (λ y. floor < y) (there x n) above) in (w.0, still_in list i a w.0 l w.1, w.2, there x n ∙ w.3))) (is_in x (steps_of owned a));
+    all_ = λ q x iq xq. ⊎_elim
+        (λ h. (let t = here x h in omega (arith, t)))
+        (λ n. ⊎_elim
+        (λ io. subst (λ y. floor < y) (sym (there x n)) (g.all_ q x io xq))
+        (λ qa. absurd (n (subst (λ y. In x (steps_of owned y)) (sym qa) xq)))
+        (next_in list i a q l e iq)) (is_in x (steps_of owned a));
+    told = (λ h. ⊎_elim (λ t. shared_on (g.told.0 t)) (λ t. shared_now (m.0 t)) (b.0 h), λ s. b.1 (⊎_elim (λ t. inl (g.told.1 t)) (λ t. inr (m.1 t)) (shared_back s)));
+  }
+
+-- past the end nothing is owned
+pub owned_within : (owned : List (List ℕ)) (a x : ℕ) → In x (steps_of owned a) → a < length owned
+owned_within [] a x h = absurd h
+owned_within (s ∷ ss) zero x h = omega arith
+owned_within (s ∷ ss) (suc a) x h = let l = owned_within ss a x h in omega (arith, l)
+
+-- one of the list has another stamp
+module _ (stamps : List ℕ) (mine : ℕ) (list : List ℕ) (i x : ℕ) (l : i < length list) (e : x ≡ get_or list i 0) where
+  pub same_more : stamp_in stamps x ≡ mine → ((a : ℕ) → In a (take i list) → stamp_in stamps a ≡ mine) → (a : ℕ) → In a (take (i + 1) list) → stamp_in stamps a ≡ mine
+  same_more s h a t = ⊎_elim (λ y. h a y) (λ q. subst (λ y. stamp_in stamps y ≡ mine) q s) (next_in list i x a l e t)
+
+-- what stands in a set whose stamps are new
+module _ (graph : List (List ℕ)) (set : List ℕ) (mine : ℕ) (old new : List ℕ)
+    (here : (x : ℕ) → In x set → stamp_in new x ≡ mine) (there : (x : ℕ) → (In x set → ⊥) → stamp_in new x ≡ stamp_in old x) (lower : (x : ℕ) → stamp_in old x < mine) where
+  pub lacked : (x : ℕ) → stamp_in new x ≢ mine → In x set → ⊥
+  lacked x n h = n (here x h)
+
+  pub had : (x : ℕ) → stamp_in new x ≡ mine → In x set
+  had x e = ⊎_elim (λ h. h) (λ n. (let t = there x n in let w = lower x in absurd (omega (arith, t, w, e)))) (is_in x set)
+
+  pub upto_mine : (x : ℕ) → stamp_in new x ≤ mine
+  upto_mine x = ⊎_elim (λ h. (let t = here x h in omega (arith, t))) (λ n. (let t = there x n in let w = lower x in omega (arith, t, w))) (is_in x set)
+
+  pub none_out : ((a x : ℕ) → In a set → In x (steps_of graph a) → stamp_in new x ≡ mine) → LeadsOut graph set → ⊥
+  none_out h o = o.lacks (had o.b (h o.a o.b o.from o.step))
+
+-- the first so many lead to what is stamped
+pub out_more : (graph : List (List ℕ)) (stamps : List ℕ) (mine : ℕ) (list : List ℕ) (i x : ℕ) → i < length list → x ≡ get_or list i 0
+    → ((y : ℕ) → In y (steps_of graph x) → stamp_in stamps y ≡ mine) → ((a y : ℕ) → In a (take i list) → In y (steps_of graph a) → stamp_in stamps y ≡ mine)
+    → (a y : ℕ) → In a (take (i + 1) list) → In y (steps_of graph a) → stamp_in stamps y ≡ mine
+out_more graph stamps mine list i x l e now before a y t s = ⊎_elim (λ h. before a y h s) (λ q. now y (subst (λ z. In y (steps_of graph z)) (sym q) s)) (next_in list i x a l e t)
+
+pub none_outside : (stamps : List ℕ) (mine : ℕ) (list : List ℕ) (found : Bool) → found ≡ false → IsTrue found ↔ Outside stamps mine list → (y : ℕ) → In y list → stamp_in stamps y ≡ mine
+none_outside stamps mine list found e b y h = ⊎_elim (λ q. q) (λ n. absurd (true≢false (sym (b.1 (record { x = y; of_list = h; other = n })) ∙ e))) (same_or_not (stamp_in stamps y) mine)
