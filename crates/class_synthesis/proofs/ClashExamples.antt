@@ -1,5 +1,5 @@
 -- Names of made interfaces that are taken: of a declared type in other letters, of a found one, and of an interface of an earlier class.
-use Rattle.std.proofs.Common.{◌≡◌, ℕ, ◌<◌, false, List, [], ◌∷◌, None, refl, arith, inl, inr}
+use Rattle.std.proofs.Common.{◌≡◌, ℕ, ◌<◌, true, false, List, [], ◌∷◌, None, refl, arith, inl, inr}
 use Rattle.std.specs.Prelude.{codes}
 use Rattle.ranked.specs.declared.place.Place.{Place}
 use Rattle.ranked.specs.Entries.{Entry}
@@ -73,3 +73,7 @@ not_earlier (inr (inr m)) = never m.j m.before
 -- a name that is longer by a letter is another
 apart : (has_lower (codes "S.IC" ∷ []) (codes "S.ICs") ≡ false) × (has_lower (codes "S.ICs" ∷ []) (codes "S.IC") ≡ false)
 apart = (refl, refl)
+
+-- the same but for case, and by a letter less
+in_other_letters : (has_lower (codes "Shop.icart" ∷ []) (codes "Shop.ICart") ≡ true) × (has_lower (codes "Shop.ICar" ∷ []) (codes "Shop.ICart") ≡ false)
+in_other_letters = (refl, refl)

@@ -1,4 +1,1 @@
-mod Examples
 mod ClashExamples
-mod PathLaws
-mod NameLaws

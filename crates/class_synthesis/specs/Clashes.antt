@@ -2,26 +2,15 @@
 use Rattle.std.specs.Prelude.{◌≡◌, ◌<◌, ◌⊎◌, ℕ, Bool, List, [], ◌++◌, Some, IsTrue, map, length, slice_get}
 use Rattle.std.specs.List.{list_any}
 use Rattle.ranked.specs.Entries.{Entry}
+use Rattle.ranked.specs.declared.place.Place.{Place}
 use Rattle.ranked.specs.First.{Below, At, Among, Only}
 use Rattle.wr_base.specs.Codes.{rank_of}
 use Rattle.wr_base.specs.declared.code.Code.TheVariants.{SynthesisClash}
 use Rattle.found_table.specs.Table.{table, name_of as found_name}
 use Rattle.wr_rules.specs.NameRules.{same_lower}
-use Rattle.placed_items.specs.declared.placed.WrittenClass.{WrittenClass}
-use Rattle.placed_items.specs.declared.placed.Written.{Written}
-use Rattle.placed_items.specs.declared.placed.Written.TheVariants as written
 use Rattle.placed_items.specs.declared.placed.PlacedItem.{PlacedItem}
 use Rattle.placed_items.specs.Items.{written_names}
-use Rattle.class_synthesis.specs.Made.{made_name, makes_default, statics_of, factories_of, where_}
-
--- the names of the interfaces that are made of a class
-abbrev pub names_made : WrittenClass → List (List ℕ)
-names_made c = where_ (makes_default c) (made_name c.name []) ++ statics_of c ++ factories_of c
-
--- the names that an item makes
-abbrev pub made_by : Written → List (List ℕ)
-made_by (written.Done d) = []
-made_by (written.Class c) = names_made c
+use Rattle.made_interfaces.specs.Made.{made_by}
 
 -- the name stands in the list, but for ASCII case
 abbrev pub has_lower : List (List ℕ) → List ℕ → Bool
@@ -39,8 +28,13 @@ pub record MadeBefore (items : List PlacedItem) (k : ℕ) (name : List ℕ) : Ty
 abbrev pub IsTaken : List PlacedItem → ℕ → List ℕ → Type 0
 IsTaken items k name = IsTrue (has_lower (written_names items) name) ⊎ IsTrue (has_lower (map found_name table) name) ⊎ MadeBefore items k name
 
--- at the class's name, with the made name as word; of two classes at the later
+-- at the class's name, with the made name as word
+abbrev pub clash_entry : Place → List ℕ → Entry
+clash_entry at name = record { file = at.file; offset = at.offset; code = rank_of SynthesisClash; word = name }
+
+-- the item at k makes a name that is taken; of two classes that make it the later clashes
+abbrev pub ClashesAt : List PlacedItem → ℕ → Entry → Type 0
+ClashesAt items k = At items (λ i. Among (made_by i.item) (λ name. Only (IsTaken items k name) (clash_entry i.places.at name))) k
+
 abbrev pub IsClash : List PlacedItem → Entry → Type 0
-IsClash items =
-    Below (length items)
-    (λ k. At items (λ i. Among (made_by i.item) (λ name. Only (IsTaken items k name) (record { file = i.places.at.file; offset = i.places.at.offset; code = rank_of SynthesisClash; word = name }))) k)
+IsClash items = Below (length items) (ClashesAt items)

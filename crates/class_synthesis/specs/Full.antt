@@ -1,6 +1,6 @@
 -- The full types of a set: with the interfaces that are made of classes, ids, and closed lists.
 use Rattle.std.specs.Prelude.{◌≡◌, List, map, length}
-use Rattle.std.specs.List.{flat_map, AllZip}
+use Rattle.std.specs.List.{AllZip}
 use Rattle.std.specs.List.Sorted.{IsPermutation}
 use Rattle.wr_base.specs.Declarations.{IsInOrder}
 use Rattle.wr_base.specs.Normal.{normal}
@@ -9,11 +9,7 @@ use Rattle.wr_base.specs.declared.places.DeclPlaces.{DeclPlaces}
 use Rattle.wr_rules.specs.Sites.{Site, sites_of}
 use Rattle.placed_items.specs.declared.placed.PlacedItem.{PlacedItem}
 use Rattle.closed_lists.specs.Closures.{IsClosing}
-use Rattle.class_synthesis.specs.Made.{item_sites}
-
--- all declarations, the lists as they are written
-abbrev pub raw : List PlacedItem → List Site
-raw items = flat_map item_sites items
+use Rattle.made_interfaces.specs.Made.{raw}
 
 -- with its lists in the order of texts, each text once
 abbrev pub in_order : Site → Site

@@ -1,2 +1,2 @@
-//! Definitions alone: the interfaces that are made of classes, the full types of a set, and the names that are taken.
+//! Definitions alone: the full types of a set, and the names of made interfaces that are taken.
 #![tactic(auto)]

@@ -14,8 +14,7 @@ use Rattle.wr_base.specs.declared.declaration.Member.TheVariants.{Method, Proper
 use Rattle.wr_base.specs.declared.declaration.Declaration.TheVariants.{Delegate, Interface, Class}
 use Rattle.placed_items.specs.declared.placed.WrittenClass.{WrittenClass}
 use Rattle.wr_rules.specs.Signatures.{named_id}
-use Rattle.class_synthesis.specs.Made.{made_name, class_sites, factory_name, factory_method, factory_methods, takes_some, makes_default, with_id}
-use Rattle.class_synthesis.specs.Clashes.{names_made, has_lower}
+use Rattle.made_interfaces.specs.Made.{made_name, class_sites, factory_name, factory_method, factory_methods, takes_some, makes_default, with_id, names_made}
 
 abbrev at : ℕ → Place
 at offset = record { file = 0; offset = offset }
@@ -127,10 +126,6 @@ none_of_its_own = (refl, refl, refl, refl, refl)
 -- what its interfaces are called, in this order
 all_three : names_made (nothing false false other (why ∷ []) (count ∷ []) (last ∷ [])) ≡ codes "S.IC" ∷ codes "S.ICStatics" ∷ codes "S.ICFactory" ∷ []
 all_three = refl
-
--- a name is taken in other letters too
-taken : (has_lower (codes "Shop.icart" ∷ []) (codes "Shop.ICart") ≡ true) × (has_lower (codes "Shop.ICar" ∷ []) (codes "Shop.ICart") ≡ false)
-taken = (refl, refl)
 
 -- an id that is written stays, and where none is written it is the one of the name
 ids :

@@ -12,10 +12,8 @@ use Rattle.placed_items.specs.declared.placed.WrittenClass.{WrittenClass}
 use Rattle.placed_items.specs.declared.placed.Written.{Written}
 use Rattle.placed_items.specs.declared.placed.Written.TheVariants as written
 use Rattle.placed_items.specs.declared.placed.PlacedItem.{PlacedItem}
-use Rattle.class_synthesis.specs.Made.{where_, makes_default, makes_statics, makes_factory, default_site, statics_site, factory_site, made_sites, with_id, sites_by, item_sites}
+use Rattle.made_interfaces.specs.Made.{where_, makes_default, makes_statics, makes_factory, default_site, statics_site, factory_site, made_sites, with_id, sites_by, item_sites, names_made, made_by, raw}
 use Rattle.placed_items.specs.Items.{written_name}
-use Rattle.class_synthesis.specs.Clashes.{names_made, made_by}
-use Rattle.class_synthesis.specs.Full.{raw}
 
 -- an id changes no name
 done_name : (id : Option ℕ) (d : Declaration) → name_of (with_id id d) ≡ name_of d

@@ -9,7 +9,7 @@ use Rattle.std.proofs.lemmas.List.Splits.{slice_split-cons_yes, slice_split-cons
 use Rattle.wr_base.specs.Paths.{is_identifier, is_path, is_start, is_rest, parts_of}
 use Rattle.wr_base.specs.Parts.{has, before_last, behind_last}
 use Rattle.wr_base.proofs.PartLaws.{either}
-use Rattle.class_synthesis.specs.Made.{made_name}
+use Rattle.made_interfaces.specs.Made.{made_name}
 
 abbrev is_dot : ℕ → Bool
 is_dot b = b == 46
@@ -97,3 +97,10 @@ made_path space own word none path rest =
 -- what is made of a full name is one
 pub made_is_path : (class word : List ℕ) → IsTrue (is_path class) → before_last 46 class ++ 46 ∷ behind_last 46 class ≡ class → IsTrue (list_all is_rest word) → IsTrue (is_path (made_name class word))
 made_is_path class word path joined rest = made_path (before_last 46 class) (behind_last 46 class) word (behind_none class) (ap is_path joined ∙ path) rest
+
+-- the same of a name that is spelled of its parts
+pub spelled_path : (class word space own text : List ℕ) → space ≡ before_last 46 class → own ≡ behind_last 46 class → text ≡ space ++ 46 ∷ 73 ∷ (own ++ word)
+    → IsTrue (is_path class) → space ++ 46 ∷ own ≡ class → IsTrue (list_all is_rest word) → IsTrue (is_path text)
+spelled_path class word space own text s o spelled path joined rest =
+    let whole : text ≡ made_name class word = spelled ∙ ap (λ t. t ++ 46 ∷ 73 ∷ (own ++ word)) s ∙ ap (λ t. before_last 46 class ++ 46 ∷ 73 ∷ (t ++ word)) o in
+    ap is_path whole ∙ made_is_path class word path (sym (ap (λ t. t ++ 46 ∷ own) s ∙ ap (λ t. before_last 46 class ++ 46 ∷ t) o) ∙ joined) rest

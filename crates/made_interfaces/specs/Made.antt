@@ -1,6 +1,6 @@
 -- The interfaces that are made of a class (C++/WinRT and MIDL 3.0 reference, Classes).
 use Rattle.std.specs.Prelude.{ℕ, ◌+◌, ◌==◌, Bool, true, false, not, ◌&&◌, ◌||◌, List, [], ◌∷◌, ◌++◌, Option, Some, None, length, take, drop, codes, if◌then◌else◌}
-use Rattle.std.specs.List.{filter, list_any}
+use Rattle.std.specs.List.{filter, flat_map, list_any}
 use Rattle.std.specs.Fmt.{decimal}
 use Rattle.ranked.specs.declared.place.Place.{Place}
 use Rattle.wr_base.specs.Parts.{before_last, behind_last}
@@ -183,3 +183,16 @@ sites_by i (written.Class c) = class_sites c i.places
 -- the declarations of an item, each with its places
 abbrev pub item_sites : PlacedItem → List Site
 item_sites i = sites_by i i.item
+
+-- the names of the interfaces that are made of a class
+abbrev pub names_made : WrittenClass → List (List ℕ)
+names_made c = where_ (makes_default c) (made_name c.name []) ++ statics_of c ++ factories_of c
+
+-- the names that an item makes
+abbrev pub made_by : Written → List (List ℕ)
+made_by (written.Done d) = []
+made_by (written.Class c) = names_made c
+
+-- all declarations of these items, their lists as they are written
+abbrev pub raw : List PlacedItem → List Site
+raw items = flat_map item_sites items

@@ -1,0 +1,4 @@
+mod Examples
+pub mod PathLaws
+pub mod NameLaws
+pub mod Building
