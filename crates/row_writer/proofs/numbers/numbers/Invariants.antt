@@ -1,0 +1,12 @@
+use Rattle.std.specs.Prelude.{take, map}
+use Rattle.md_heaps.specs.Blobs.{BlobHere}
+use Rattle.md_heaps.specs.Heaps.{EachStands, Keeps}
+use Rattle.md_tables.specs.Rows.{rows_in}
+use Rattle.row_writer.specs.Known.{Says}
+use Rattle.row_writer.specs.Lines.{counts, value_of}
+use Rattle.row_writer.proofs.numbers.numbers.Given as goal
+
+abbrev pub invariant-loop-i : goal.invariant-loop-i
+invariant-loop-i l =
+    Keeps l.fn.texts l.texts × Keeps l.fn.blobs l.blobs × EachStands BlobHere l.blobs
+    × Says l.texts l.blobs (take l.i l.columns) l.row.items (take l.i (map (value_of (counts (rows_in l.set))) l.cells))
