@@ -38,3 +38,9 @@ sites_by_places [] [] e = refl
 sites_by_places [] (y ∷ ys) e = absurd (omega (arith, e))
 sites_by_places (x ∷ xs) [] e = refl
 sites_by_places (x ∷ xs) (y ∷ ys) e = let h = sites_by_places xs ys (omega (arith, e)) in omega (arith, h)
+
+-- a refusal by a test at a spot, where both are known by other names
+pub refused : {E : Type 0} (r : Result (Option Entry) E) (told test : Bool) (code : Code) (at spot : Spot) → told ≡ test → at ≡ spot → IfOk r (λ a. a ≡ give told (broken_at code at))
+    → IfOk r (IsFirst (If test code spot))
+refused r told test code at spot e f h =
+    subst (λ (s : Spot). IfOk r (IsFirst (If test code s))) f (subst (λ (b : Bool). IfOk r (IsFirst (If b code at))) e (first_ok r told code at h))

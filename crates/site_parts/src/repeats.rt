@@ -28,7 +28,7 @@ pub trait Repeats<X> {
         ensures { IfOk result (λ r. string_bytes r ≡ key self.now item.now) };
 
     /// Where the item stands.
-    fn spot(&self, item: &X) -> Spot
+    fn spot<'s>(&'s self, item: &'s X) -> Spot<'s>
         ensures { spot_view result ≡ spot self.now item.now };
 }
 
