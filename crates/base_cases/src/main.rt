@@ -2,54 +2,55 @@
 //! `docs/CONTRIBUTING.md` says how a case is spelled.
 #![tactic(auto)]
 
-mod declaration_text;
 mod declared;
 mod failing;
 mod outside;
 mod type_uses;
 
-use std::alloc::{AllocError, Global};
+use std::alloc::AllocError;
 use std::io;
 
 // What is said of declarations.
-fn answer_of(alloc: Global, command: &str, case: &str) -> Result<String, AllocError> {
+fn push_answer(out: &mut String, command: &str, case: &str) -> Result<(), AllocError> {
     match command {
-        "use" => type_uses::type_use(alloc, case),
-        "types" => declared::types(alloc, case),
-        "useids" => declared::use_ids(alloc, case),
-        "codes" => declared::codes(alloc),
-        _ => answer_of_outside(alloc, command, case),
+        "use" => type_uses::type_use(out, case),
+        "types" => declared::types(out, case),
+        "useids" => declared::use_ids(out, case),
+        "codes" => declared::codes(out),
+        _ => push_outside(out, command, case),
     }
 }
 
-fn answer_of_outside(alloc: Global, command: &str, case: &str) -> Result<String, AllocError> {
+fn push_outside(out: &mut String, command: &str, case: &str) -> Result<(), AllocError> {
     match command {
-        "calls" => outside::calls(alloc, case),
-        "puts" => outside::puts(alloc, case),
-        "whole" => outside::whole(alloc, case),
-        "written" => outside::written(alloc, case),
-        "safe" => outside::safe(alloc, case),
-        _ => String::from_str(alloc, "no such command"),
+        "calls" => outside::calls(out, case),
+        "puts" => outside::puts(out, case),
+        "whole" => outside::whole(out, case),
+        "written" => outside::written(out, case),
+        "safe" => outside::safe(out, case),
+        _ => out.push_str("no such command"),
     }
 }
 
 fn answer(rt: &HostRuntime, command: &str, case: &str) -> io::Result<()> {
-    match answer_of(rt.alloc(), command, case) {
-        Ok(text) => println!(rt; "{text}"),
+    let mut out = String::new(rt.alloc());
+    match push_answer(&mut out, command, case) {
+        Ok(()) => println!(rt; "{out}"),
         Err(_) => println!(rt; "no memory"),
+    }
+}
+
+fn line_answer(rt: &HostRuntime, line: &str) -> io::Result<()> {
+    let (command, case) = line.split_once(' ').unwrap_or((line, ""));
+    match command {
+        "#" => println!(rt; "{line}"),
+        _ => answer(rt, command, case),
     }
 }
 
 fn main(rt: HostRuntime) -> io::Result<()> {
     for line in rt.lines(rt.alloc()) {
-        let line = line?;
-        let text = line.as_str();
-        let (command, case) = text.split_once(' ').unwrap_or((text, ""));
-        if command == "#" {
-            println!(rt; "{text}")?;
-        } else {
-            answer(&rt, command, case)?;
-        }
+        line_answer(&rt, line?.as_str())?;
     }
     Ok(())
 }

@@ -10,10 +10,16 @@ use wr_outside::{
     read_whole, write_whole,
 };
 
+fn files_of_a(alloc: Global) -> Result<NamedFiles, AllocError> {
+    let mut files = NamedFiles::new(alloc);
+    let bytes = Vec::from_slice(alloc, b"abc")?;
+    files.insert(alloc, "a", bytes)?;
+    Ok(files)
+}
+
 fn store_of_a(alloc: Global, failing: &str) -> Result<MemoryStore, AllocError> {
     let failing = numbers_of(alloc, failing)?;
-    let mut files = NamedFiles::new(alloc);
-    files.insert(alloc, "a", Vec::from_slice(alloc, b"abc")?)?;
+    let files = files_of_a(alloc)?;
     Ok(MemoryStore::new(alloc, files, failing))
 }
 
@@ -36,14 +42,19 @@ fn failing_calls(store: &mut MemoryStore) -> [bool; 6] {
     ]
 }
 
-/// Whether each of six calls fails, how many faults are counted, and what `a` and `b` hold.
-pub fn calls(alloc: Global, case: &str) -> Result<String, AllocError> {
-    let mut store = store_of_a(alloc, case)?;
-    let failed = failing_calls(&mut store);
+fn push_calls(out: &mut String, store: &mut MemoryStore) -> Result<(), AllocError> {
+    let alloc = *out.allocator();
+    let failed = failing_calls(store);
     let faults = store.failures.faults;
     let a = held(&store.files, "a");
     let b = held(&store.files, "b");
-    format!(in alloc; "{failed:?} {faults} {a:?} {b:?}")
+    out.push_str(format!(in alloc; "{failed:?} {faults} {a:?} {b:?}")?.as_str())
+}
+
+/// Whether each of six calls fails, how many faults are counted, and what `a` and `b` hold.
+pub fn calls(out: &mut String, case: &str) -> Result<(), AllocError> {
+    let mut store = store_of_a(*out.allocator(), case)?;
+    push_calls(out, &mut store)
 }
 
 fn push_puts<S: Sink>(out: &mut String, sink: &mut S, texts: &str) -> Result<(), AllocError> {
@@ -54,69 +65,94 @@ fn push_puts<S: Sink>(out: &mut String, sink: &mut S, texts: &str) -> Result<(),
     Ok(())
 }
 
-/// Whether each text is put, and what the sink then holds.
-pub fn puts(alloc: Global, case: &str) -> Result<String, AllocError> {
-    let (failing, texts) = halves(case);
-    let mut sink = MemorySink::new(alloc, numbers_of(alloc, failing)?);
-    let mut out = String::new(alloc);
-    push_puts(&mut out, &mut sink, texts)?;
-    out.push_str(std::str::from_utf8(&sink.bytes).unwrap_or("?"))?;
-    Ok(out)
+fn push_held(out: &mut String, bytes: &[u8]) -> Result<(), AllocError> {
+    out.push_str(std::str::from_utf8(bytes).unwrap_or("?"))
 }
 
-fn read_text<S: Store>(
-    alloc: Global,
+fn push_sink(out: &mut String, sink: &mut MemorySink, texts: &str) -> Result<(), AllocError> {
+    push_puts(out, sink, texts)?;
+    push_held(out, &sink.bytes)
+}
+
+/// Whether each text is put, and what the sink then holds.
+pub fn puts(out: &mut String, case: &str) -> Result<(), AllocError> {
+    let alloc = *out.allocator();
+    let (failing, texts) = halves(case);
+    let mut sink = MemorySink::new(alloc, numbers_of(alloc, failing)?);
+    push_sink(out, &mut sink, texts)
+}
+
+fn push_text(out: &mut String, bytes: &[u8]) -> Result<(), AllocError> {
+    let alloc = *out.allocator();
+    out.push_str(format!(in alloc; "{:?}", std::str::from_utf8(bytes))?.as_str())
+}
+
+fn push_long(out: &mut String, size: u64) -> Result<(), AllocError> {
+    let alloc = *out.allocator();
+    out.push_str(format!(in alloc; "TooLong {size}")?.as_str())
+}
+
+fn push_read<S: Store>(
+    out: &mut String,
     store: &mut S,
     name: &str,
     limit: u32,
-) -> Result<String, AllocError> {
-    match read_whole(alloc, store, name, limit as u64) {
-        Ok(bytes) => format!(in alloc; "{:?}", std::str::from_utf8(&bytes)),
-        Err(ReadRefusal::Missing) => String::from_str(alloc, "Missing"),
-        Err(ReadRefusal::TooLong(size)) => format!(in alloc; "TooLong {size}"),
-        Err(ReadRefusal::Fault) => String::from_str(alloc, "Fault"),
-        Err(ReadRefusal::Memory) => String::from_str(alloc, "Memory"),
+) -> Result<(), AllocError> {
+    match read_whole(*out.allocator(), store, name, limit as u64) {
+        Ok(bytes) => push_text(out, &bytes),
+        Err(ReadRefusal::Missing) => out.push_str("Missing"),
+        Err(ReadRefusal::TooLong(size)) => push_long(out, size),
+        Err(ReadRefusal::Fault) => out.push_str("Fault"),
+        Err(ReadRefusal::Memory) => out.push_str("Memory"),
     }
 }
 
 /// What the file is read as, or why it isn't.
-pub fn whole(alloc: Global, case: &str) -> Result<String, AllocError> {
+pub fn whole(out: &mut String, case: &str) -> Result<(), AllocError> {
     let (name, rest) = halves(case);
     let (limit, failing) = halves(rest);
-    let mut store = store_of_a(alloc, failing)?;
-    read_text(alloc, &mut store, name, decimal(limit))
+    let mut store = store_of_a(*out.allocator(), failing)?;
+    push_read(out, &mut store, name, decimal(limit))
+}
+
+fn push_written(out: &mut String, store: &mut MemoryStore) -> Result<(), AllocError> {
+    let alloc = *out.allocator();
+    let is_written = write_whole(store, "a", b"new").is_ok();
+    let a = held(&store.files, "a");
+    out.push_str(format!(in alloc; "{is_written} {a:?}")?.as_str())
 }
 
 /// Whether `new` is written to the file, and what it then holds.
-pub fn written(alloc: Global, case: &str) -> Result<String, AllocError> {
-    let mut store = store_of_a(alloc, case)?;
-    let is_written = write_whole(&mut store, "a", b"new").is_ok();
-    let a = held(&store.files, "a");
-    format!(in alloc; "{is_written} {a:?}")
+pub fn written(out: &mut String, case: &str) -> Result<(), AllocError> {
+    let mut store = store_of_a(*out.allocator(), case)?;
+    push_written(out, &mut store)
 }
 
-fn push_safe(
-    out: &mut String,
-    alloc: Global,
-    store: &mut SafeStore,
-    text: &str,
-) -> Result<(), AllocError> {
+fn push_safe(out: &mut String, store: &mut SafeStore, text: &str) -> Result<(), AllocError> {
     let is_written = write_whole(store, "a", text.as_bytes()).is_ok();
     let limit = text.len().min(1000) as u32;
-    let read = read_text(alloc, store, "a", limit)?;
-    out.push_str(format!(in alloc; "{is_written} {}|", read.as_str())?.as_str())
+    out.push_str(if is_written { "true " } else { "false " })?;
+    push_read(out, store, "a", limit)?;
+    out.push_str("|")
+}
+
+fn push_all_safe(out: &mut String, store: &mut SafeStore, case: &str) -> Result<(), AllocError> {
+    for text in case.split(' ') {
+        push_safe(out, store, text)?;
+    }
+    push_safe(out, store, "")
+}
+
+fn push_safe_sink(out: &mut String, sink: &mut SafeSink, case: &str) -> Result<(), AllocError> {
+    push_puts(out, sink, case)?;
+    push_held(out, &sink.bytes)
 }
 
 /// Whether each text, the empty one last, is written to a store that never fails, and what is then read; and what a sink that never fails holds.
-pub fn safe(alloc: Global, case: &str) -> Result<String, AllocError> {
+pub fn safe(out: &mut String, case: &str) -> Result<(), AllocError> {
+    let alloc = *out.allocator();
     let mut store = SafeStore::new(alloc, NamedFiles::new(alloc));
+    push_all_safe(out, &mut store, case)?;
     let mut sink = SafeSink::new(alloc);
-    let mut out = String::new(alloc);
-    for text in case.split(' ') {
-        push_safe(&mut out, alloc, &mut store, text)?;
-    }
-    push_safe(&mut out, alloc, &mut store, "")?;
-    push_puts(&mut out, &mut sink, case)?;
-    out.push_str(std::str::from_utf8(&sink.bytes).unwrap_or("?"))?;
-    Ok(out)
+    push_safe_sink(out, &mut sink, case)
 }

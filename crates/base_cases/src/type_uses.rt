@@ -1,6 +1,6 @@
 //! Type uses as cases spell them: `$A.B` for a value type, `&A.B` for another, `String`, `UInt8` and `Object`, and `A.B/2` for the instance of the last two.
 
-use crate::declaration_text::use_text;
+use case_text::use_text;
 use sqlite_items::Items;
 use std::alloc::{AllocError, Global};
 use wr_base::{Base, FullName, Same, TypeUse, Uses};
@@ -27,7 +27,8 @@ fn named(alloc: Global, word: &str) -> Result<TypeUse, AllocError> {
     }
 }
 
-fn instance(alloc: Global, name: &str, uses: &mut Vec<TypeUse>) -> Result<(), AllocError> {
+// The last two uses.
+fn arguments(alloc: Global, uses: &mut Vec<TypeUse>) -> Result<Uses, AllocError> {
     let mut arguments = Items::new(alloc);
     let second = uses.pop();
     if let Some(first) = uses.pop() {
@@ -36,8 +37,22 @@ fn instance(alloc: Global, name: &str, uses: &mut Vec<TypeUse>) -> Result<(), Al
     if let Some(second) = second {
         arguments.push(second)?;
     }
-    if let Some(name) = full_name(alloc, name)? {
-        uses.push(TypeUse::Inst(name, arguments))?;
+    Ok(arguments)
+}
+
+fn push_instance(uses: &mut Vec<TypeUse>, alloc: Global, name: &str) -> Result<(), AllocError> {
+    let arguments = arguments(alloc, uses)?;
+    match full_name(alloc, name)? {
+        Some(name) => uses.push(TypeUse::Inst(name, arguments))?,
+        None => {}
+    }
+    Ok(())
+}
+
+fn push_word(uses: &mut Vec<TypeUse>, alloc: Global, word: &str) -> Result<(), AllocError> {
+    match word.split_once('/') {
+        Some((name, _)) => push_instance(uses, alloc, name)?,
+        None => uses.push(named(alloc, word)?)?,
     }
     Ok(())
 }
@@ -46,25 +61,26 @@ fn instance(alloc: Global, name: &str, uses: &mut Vec<TypeUse>) -> Result<(), Al
 pub fn uses_of(alloc: Global, text: &str) -> Result<Vec<TypeUse>, AllocError> {
     let mut uses = Vec::new(alloc);
     for word in text.split_whitespace() {
-        match word.split_once('/') {
-            Some((name, _)) => instance(alloc, name, &mut uses)?,
-            None => uses.push(named(alloc, word)?)?,
-        }
+        push_word(&mut uses, alloc, word)?;
     }
     Ok(uses)
 }
 
-/// `use WORD ..` prints each use, and whether its copy is the same.
-pub fn type_use(alloc: Global, case: &str) -> Result<String, AllocError> {
-    let uses = uses_of(alloc, case)?;
-    let mut out = String::new(alloc);
-    for use_ in &uses {
-        use_text(&mut out, use_)?;
-        out.push_str(if use_.clone()?.same(use_) {
-            " same"
-        } else {
-            " other"
-        })?;
+fn push_use(out: &mut String, use_: &TypeUse) -> Result<(), AllocError> {
+    use_text(out, use_)?;
+    let copy = use_.clone()?;
+    out.push_str(if copy.same(use_) { " same" } else { " other" })
+}
+
+fn push_uses(out: &mut String, uses: &[TypeUse]) -> Result<(), AllocError> {
+    for use_ in uses {
+        push_use(out, use_)?;
     }
-    Ok(out)
+    Ok(())
+}
+
+/// `use WORD ..` prints each use, and whether its copy is the same.
+pub fn type_use(out: &mut String, case: &str) -> Result<(), AllocError> {
+    let uses = uses_of(*out.allocator(), case)?;
+    push_uses(out, &uses)
 }
