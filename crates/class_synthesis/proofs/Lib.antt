@@ -1,1 +1,5 @@
 mod ClashExamples
+mod TakenLaws
+mod ApartLaws
+mod OrderedLaws
+mod FullLaws

@@ -1,5 +1,5 @@
 -- Names of made interfaces that are taken (C++/WinRT and MIDL 3.0 reference, Classes).
-use Rattle.std.specs.Prelude.{◌≡◌, ◌<◌, ◌⊎◌, ℕ, Bool, List, [], ◌++◌, Some, IsTrue, map, length, slice_get}
+use Rattle.std.specs.Prelude.{◌≡◌, ◌<◌, ◌⊎◌, ℕ, Bool, List, Some, IsTrue, map, length, slice_get}
 use Rattle.std.specs.List.{list_any}
 use Rattle.ranked.specs.Entries.{Entry}
 use Rattle.ranked.specs.declared.place.Place.{Place}

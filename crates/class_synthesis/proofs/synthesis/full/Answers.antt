@@ -1,0 +1,29 @@
+use Rattle.std.proofs.Common.{List, subst}
+use Rattle.ranked.specs.First.{IsFirst}
+use Rattle.placed_items.specs.declared.placed.PlacedItem.{PlacedItem}
+use Rattle.class_synthesis.specs.Clashes.{IsClash}
+use Rattle.class_synthesis.proofs.FullLaws.{cleared, none_first, one_first, not_clear}
+use Rattle.class_synthesis.proofs.synthesis.full.Goals as goal
+
+pub whole-requires-clause-clear : goal.whole-requires-clause-clear
+whole-requires-clause-clear c = cleared c.as_slice-items.result.now (subst (IsFirst (IsClash c.as_slice-items.result.now)) c.in-None.is c.in_ok-refusal.ensures)
+
+pub returns-in-Some-clause-only : goal.returns-in-Some-clause-only
+returns-in-Some-clause-only c = λ clear.
+    not_clear c.args.placed.now c.in-Some.refusal
+    (subst (IsFirst (IsClash c.args.placed.now)) c.in-Some.is (subst (λ (is : List PlacedItem). IsFirst (IsClash is) c.in_ok-refusal.field-0) c.as_slice-items.ensures c.in_ok-refusal.ensures)) clear
+
+pub returns-in-Some-clause-first : goal.returns-in-Some-clause-first
+returns-in-Some-clause-first c = λ e f.
+    one_first c.args.placed.now e c.in-Some.refusal
+    (subst (IsFirst (IsClash c.args.placed.now)) c.in-Some.is (subst (λ (is : List PlacedItem). IsFirst (IsClash is) c.in_ok-refusal.field-0) c.as_slice-items.ensures c.in_ok-refusal.ensures)) f
+
+pub returns-in_ok-whole-in-None-clause-clear : goal.returns-in_ok-whole-in-None-clause-clear
+returns-in_ok-whole-in-None-clause-clear c =
+    cleared c.args.placed.now
+    (subst (IsFirst (IsClash c.args.placed.now)) c.in-None.is (subst (λ (is : List PlacedItem). IsFirst (IsClash is) c.in_ok-refusal.field-0) c.as_slice-items.ensures c.in_ok-refusal.ensures))
+
+pub returns-in_ok-whole-in-None-clause-first : goal.returns-in_ok-whole-in-None-clause-first
+returns-in_ok-whole-in-None-clause-first c = λ e f.
+    none_first c.args.placed.now e
+    (subst (IsFirst (IsClash c.args.placed.now)) c.in-None.is (subst (λ (is : List PlacedItem). IsFirst (IsClash is) c.in_ok-refusal.field-0) c.as_slice-items.ensures c.in_ok-refusal.ensures)) f
