@@ -1,0 +1,11 @@
+pub mod MoveLaws
+pub mod ShapeLaws
+pub mod RuleMoves
+pub mod FactoryMoves
+pub mod OrderLaws
+pub mod NameMoves
+pub mod IdMoves
+pub mod Crossing
+pub mod Weights
+pub mod LimitMoves
+pub mod AllMoves
