@@ -1,0 +1,2 @@
+pub mod GrownLaws
+pub mod ResultLaws
