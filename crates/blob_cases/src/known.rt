@@ -66,7 +66,7 @@ fn add_all(alloc: Global, known: &mut Known) -> Result<(), AllocError> {
 pub fn known_types(alloc: Global) -> Result<Known, AllocError> {
     let mut known = Known {
         names: TokenNames::new(alloc),
-        tokens: Tokens::new(alloc),
+        tokens: Tokens::new(alloc, 0),
     };
     add_all(alloc, &mut known)?;
     Ok(known)

@@ -4,6 +4,6 @@ use Rattle.std.specs.Option.{unwrap_or}
 use Rattle.sig_blobs.specs.declared.tokens.Tokens.{Tokens}
 use Rattle.sig_blobs.specs.Writing.{Numbers}
 
--- 0 for a name that has none
+-- the number that was added last for this name, or that of all others
 abbrev pub number_in : Tokens → Numbers
-number_in tokens name = unwrap_or (get_by_text tokens.numbers name) 0
+number_in tokens name = unwrap_or (get_by_text tokens.numbers name) tokens.other

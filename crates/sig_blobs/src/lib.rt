@@ -33,6 +33,7 @@ pub use attributes::first_argument;
 pub use laws::{canonical_spells, spells_one, value_spells};
 pub use put_arguments::put_attribute;
 pub use reading::{field_of, method_of, property_of, spec_of};
+pub use templates::template;
 pub use token_names::{RowName, TokenNames};
 pub use tokens::Tokens;
 pub use writing::{put_field, put_method, put_property, put_spec};

@@ -9,12 +9,13 @@ use std::alloc::Global;
 use std::collections::BTreeMap;
 
 impl Tokens {
-    /// No type has a number.
-    pub fn new(alloc: Global) -> Tokens
-        ensures { (name : List ℕ) → number_in result name ≡ 0 }
+    /// One number stands for every type.
+    pub fn new(alloc: Global, other: u32) -> Tokens
+        ensures { (name : List ℕ) → number_in result name ≡ other }
     {
         Tokens {
             numbers: BTreeMap::new(alloc),
+            other,
         }
     }
 
@@ -27,13 +28,13 @@ impl Tokens {
         Ok(())
     }
 
-    /// The number of the type of this name, which is 0 where there is none.
+    /// The number of the type of this name.
     pub fn number(&self, name: &str) -> u32
         ensures { result ≡ number_in self.now name.now }
     {
         match self.numbers.get(name) {
             Some(number) => *number,
-            None => 0,
+            None => self.other,
         }
     }
 }

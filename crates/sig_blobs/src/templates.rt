@@ -28,7 +28,7 @@ fn stripped<'a>(end: &str, text: &'a str) -> Option<&'a str>
 }
 
 /// The name of a template that takes so many arguments.
-pub(crate) fn template(alloc: Global, name: &FullName, count: usize) -> Result<String, Memory>
+pub fn template(alloc: Global, name: &FullName, count: usize) -> Result<String, Memory>
     ensures { IfOk result (λ text. string_bytes text ≡ templates.template name.now count) }
 {
     let mut text = String::from_str(alloc, name.as_str())?;

@@ -1,0 +1,7 @@
+pub mod TakeLaws
+pub mod UseLaws
+pub mod KeyLaws
+pub mod DefaultLaws
+pub mod MemberLaws
+pub mod KindLaws
+pub mod WholeLaws

@@ -1,0 +1,80 @@
+//! Members of interfaces.
+
+ghost use Rattle.std.specs.Prelude.{◌≡◌, ◌||◌, [], ℕ, List, OnOk, bytes_eq, map, not};
+ghost use Rattle.std.specs.List.{list_any};
+ghost use Rattle.std.specs.BTreeSet.{contains_text};
+ghost use Rattle.wr_base.specs.Trees.{member_tree, signature_tree, tree_of};
+ghost use Rattle.winmd_sets.specs.Members.{member_lines, members_lines, method_names};
+ghost use Rattle.winmd_uses.specs.Earlier.{event_says, method_lines_if, texts_in};
+ghost use Rattle.winmd_uses.specs.Takes.{Takes, lines_say};
+
+use crate::makers::Maker;
+use crate::takes::mark;
+use crate::used::Used;
+use ranked::{Memory, Name};
+use std::alloc::Global;
+use std::collections::BTreeSet;
+use wr_base::{Member, Signature, TypeUse};
+
+// The name of a method is among the earlier ones from now on.
+fn note(alloc: Global, earlier: &mut BTreeSet<String>, member: &Member) -> Result<(), Memory>
+    ensures { OnOk result ((other : List ℕ) → contains_text earlier.new other ≡ (list_any (bytes_eq other) (method_names (member_tree member.now)) || contains_text earlier.old other)) }
+{
+    match member {
+        Member::Method { name, .. } => { mark(earlier, String::from_str(alloc, name.as_str())?) }
+        _ => Ok(()),
+    }
+}
+
+// Whether a method has an Overload attribute: its name isn't that of its slot, or was there before.
+fn has_overload(name: &Name, abi: &Name, repeated: bool) -> bool
+    ensures { result ≡ (not (bytes_eq abi.now name.now) || repeated) }
+{
+    *abi != *name || repeated
+}
+
+impl Used {
+    fn take_method(
+        &mut self,
+        name: &Name,
+        abi: &Name,
+        sig: &Signature,
+        repeated: bool,
+    ) -> Result<(), Memory>
+        ensures { OnOk result (Takes (lines_say (method_lines_if repeated name.now abi.now (signature_tree sig.now))) self.old self.new) }
+    {
+        self.take_signature(sig)?;
+        self.take_maker_if(has_overload(name, abi, repeated), Maker::Overload)
+    }
+
+    fn take_event(&mut self, ty: &TypeUse) -> Result<(), Memory>
+        ensures { OnOk result (Takes (event_says (tree_of ty.now)) self.old self.new) }
+    {
+        self.take_cell(ty)?;
+        self.take_use(ty)?;
+        self.take_name("Windows.Foundation.EventRegistrationToken")
+    }
+
+    fn take_member(&mut self, earlier: &BTreeSet<String>, member: &Member) -> Result<(), Memory>
+        ensures { OnOk result (Takes (lines_say (member_lines (texts_in earlier.now) (member_tree member.now))) self.old self.new) }
+    {
+        match member {
+            Member::Method { name, abi, sig } => {
+                self.take_method(name, abi, sig, earlier.contains(name.as_str()))
+            }
+            Member::Property { ty, .. } => self.take_use(ty),
+            Member::Event { ty, .. } => self.take_event(ty),
+        }
+    }
+
+    pub(crate) fn take_members(&mut self, members: &[Member]) -> Result<(), Memory>
+        ensures { OnOk result (Takes (lines_say (members_lines [] (map member_tree members.now))) self.old self.new) }
+    {
+        let mut earlier = BTreeSet::new(self.alloc);
+        for member in members {
+            self.take_member(&earlier, member)?;
+            note(self.alloc, &mut earlier, member)?;
+        }
+        Ok(())
+    }
+}
