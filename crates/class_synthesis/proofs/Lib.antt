@@ -3,3 +3,4 @@ mod TakenLaws
 mod ApartLaws
 mod OrderedLaws
 mod FullLaws
+mod PlaceLaws

@@ -2,7 +2,9 @@ use Rattle.std.proofs.Common.{List, subst}
 use Rattle.ranked.specs.First.{IsFirst}
 use Rattle.placed_items.specs.declared.placed.PlacedItem.{PlacedItem}
 use Rattle.class_synthesis.specs.Clashes.{IsClash}
+use Rattle.class_synthesis.specs.Full.{IsFull}
 use Rattle.class_synthesis.proofs.FullLaws.{cleared, none_first, one_first, not_clear}
+use Rattle.class_synthesis.proofs.PlaceLaws.{full_parts}
 use Rattle.class_synthesis.proofs.synthesis.full.Goals as goal
 
 pub whole-requires-clause-clear : goal.whole-requires-clause-clear
@@ -27,3 +29,8 @@ pub returns-in_ok-whole-in-None-clause-first : goal.returns-in_ok-whole-in-None-
 returns-in_ok-whole-in-None-clause-first c = λ e f.
     none_first c.args.placed.now e
     (subst (IsFirst (IsClash c.args.placed.now)) c.in-None.is (subst (λ (is : List PlacedItem). IsFirst (IsClash is) c.in_ok-refusal.field-0) c.as_slice-items.ensures c.in_ok-refusal.ensures)) f
+
+pub returns-in_ok-whole-in-None-clause-places : goal.returns-in_ok-whole-in-None-clause-places
+returns-in_ok-whole-in-None-clause-places c = λ has.
+    full_parts c.args.placed.now c.in_ok-whole-in-None.field-0.types c.in_ok-whole-in-None.field-0.places
+    (subst (λ (is : List PlacedItem). IsFull is c.in_ok-whole-in-None.field-0.types c.in_ok-whole-in-None.field-0.places) c.as_slice-items.ensures c.in_ok-whole-in-None.ensures) has
