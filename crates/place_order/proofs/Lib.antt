@@ -1,0 +1,3 @@
+pub mod StandLaws
+pub mod SumLaws
+pub mod EarlierLaws

@@ -1,0 +1,11 @@
+use Rattle.std.proofs.Common.{rules, is_lt}
+use Rattle.std.specs.Ordering.{nat_cmp}
+use Rattle.std.specs.Cmp.Lexicographic.{slice_cmp, nat_list_cmp_total}
+use Rattle.std.proofs.lemmas.List.Sorted.{ranks_by, answers_always}
+use Rattle.place_order.specs.Stands.{key}
+use Rattle.place_order.proofs.stands.sort_stands.Goals as goal
+
+pub returns-clause-sorted : goal.returns-clause-sorted
+returns-clause-sorted c =
+    c.in_ok-sort_by.ensures.sorted (λ x y. is_lt (slice_cmp nat_cmp (key x) (key y)))
+    (ranks_by nat_list_cmp_total key) (answers_always _ _ _ (λ f a r q k. search rules))
