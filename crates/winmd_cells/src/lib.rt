@@ -1,0 +1,14 @@
+//! What the rows of an image say (ECMA-335 II.22, II.24.2): any cell with its index followed, the list of rows that a row begins, and the
+//! rows that lead to a row, each exactly as it is defined, or its fault where it stands.
+#![tactic(auto)]
+
+mod cells;
+mod image;
+mod indexes;
+mod lists;
+mod offsets;
+mod places;
+
+pub use cells::Value;
+pub use image::{Image, Places};
+pub use indexes::index;
