@@ -1,5 +1,5 @@
 -- The first entry of a list seen through a function.
-use Rattle.std.proofs.Common.{◌≡◌, ℕ, ◌+◌, ◌<◌, List, Option, Some, None, map, get_or, slice_get, length, refl, sym, ap, subst, ◌∙◌}
+use Rattle.std.proofs.Common.{◌≡◌, Bool, true, false, not, ℕ, ◌+◌, ◌<◌, List, Option, Some, None, map, get_or, slice_get, length, refl, sym, ap, subst, ◌∙◌}
 use Rattle.std.specs.Option.{option_map}
 use Rattle.std.proofs.lemmas.Option.{slice_get-map, same_Some, none-some}
 use Rattle.std.proofs.lemmas.List.{length-map}
@@ -8,6 +8,10 @@ use Rattle.ranked.specs.First.{IsFirst, Below, At, Among, Only}
 use Rattle.ranked.specs.Repeats.{StandsBefore, RepeatAt, Repeated}
 use Rattle.ranked.proofs.FirstLaws.{same, finished, one_more_element, itself}
 use Rattle.midl_names.specs.Faults.{Gives}
+
+pub not_not : (b : Bool) → not (not b) ≡ b
+not_not true = refl
+not_not false = refl
 
 -- what stands at a place of a list seen through a function
 origin : {X Y : Type 0} (f : X → Y) (o : Option X) (y : Y) → option_map f o ≡ Some y → (x : X) × (o ≡ Some x) × (f x ≡ y)

@@ -11,3 +11,7 @@ pub mod Spread
 pub mod Turns
 pub mod UseLaws
 pub mod Mapped
+pub mod ApartLaws
+pub mod NamedLaws
+pub mod PathLaws
+pub mod PlaceCounts

@@ -5,8 +5,13 @@ use Rattle.ranked.specs.First.{IsFirst}
 use Rattle.ranked.specs.declared.stop.Stop.{Stop}
 use Rattle.ranked.specs.declared.stop.Stop.TheVariants.{Refused, Memory}
 use Rattle.placed_items.specs.declared.placed.PlacedItem.{PlacedItem}
-use Rattle.midl_names.specs.Items.{Source}
-use Rattle.midl_names.specs.Names.{Names}
+use Rattle.midl_names.specs.Items.{Item, Source}
+use Rattle.midl_names.specs.Names.{Broken, Names}
+
+-- the refusal is the first of what is broken in the items
+abbrev pub BrokenFirst : List Item → Stop Entry → Type 0
+BrokenFirst items Memory = Unit {0}
+BrokenFirst items (Refused e) = IsFirst (Broken items) (Some e)
 
 -- the refusal is the first of what is broken
 abbrev pub RefusedFirst : List Source → Stop Entry → Type 0

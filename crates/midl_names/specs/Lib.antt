@@ -9,7 +9,7 @@ pub mod Items
 pub mod Lookup
 pub mod Within
 pub mod Members
-pub mod Named
+pub mod RawMembers
 pub mod Names
 pub mod Resolved
 pub mod Uses

@@ -24,19 +24,21 @@ Names sources = Broken (items_of sources)
 abbrev pub NameFaults : (List ℕ → Option Sort) → Item → Entry → Type 0
 NameFaults known i = Or (Gives (found_again i)) (Among (uses_of i.tree) (λ u. Gives (use_fault known i u)))
 
--- the same, and what is broken at its constructors
+-- the same, and constructors without parameters that stand again
+abbrev pub DoubledFaults : (List ℕ → Option Sort) → Item → Entry → Type 0
+DoubledFaults known i = Or (Among (drop 1 (filter is_plain (class_members i.tree))) (λ m. Gives (doubled i m))) (NameFaults known i)
+
+-- the same, and misnamed constructors
 abbrev pub WrittenFaults : (List ℕ → Option Sort) → Item → Entry → Type 0
-WrittenFaults known i =
-    Or (Among (class_members i.tree) (λ m. Gives (misnamed i m)))
-    (Or (Among (drop 1 (filter is_plain (class_members i.tree))) (λ m. Gives (doubled i m)))
-    (NameFaults known i))
+WrittenFaults known i = Or (Among (class_members i.tree) (λ m. Gives (misnamed i m))) (DoubledFaults known i)
+
+-- the same, and attributes that don't fit
+abbrev pub UnfitFaults : (List ℕ → Option Sort) → Item → Entry → Type 0
+UnfitFaults known i = Or (Among i.attributes (λ a. Gives (unfit i a))) (WrittenFaults known i)
 
 -- the same item by item: what is broken at one, apart from names that repeat
 abbrev pub ItemFaults : (List ℕ → Option Sort) → Item → Entry → Type 0
-ItemFaults known i =
-    Or (Repeated called (attribute_entry i) i.attributes)
-    (Or (Among i.attributes (λ a. Gives (unfit i a)))
-    (WrittenFaults known i))
+ItemFaults known i = Or (Repeated called (attribute_entry i) i.attributes) (UnfitFaults known i)
 
 abbrev pub ByItem : (List ℕ → Option Sort) → List Item → Entry → Type 0
 ByItem known items = Or (Repeated lower_name duplicate_entry items) (Among items (ItemFaults known))

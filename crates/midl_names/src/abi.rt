@@ -1,7 +1,10 @@
 //! The ABI names of methods.
 
 ghost use Rattle.std.specs.Prelude.{◌≡◌, ◌+◌, ◌<◌, ◌^◌, [], ℕ, List, IfOk, OnOk};
+ghost use Rattle.std.specs.List.{All};
 ghost use Rattle.midl_names.specs.Counts.{count_at};
+ghost use Rattle.midl_names.specs.RawMembers.{IsRawMember};
+ghost use Rattle.placed_items.specs.Named.{IsNamedMember};
 ghost use Rattle.midl_names.specs.Members.{abi_name, told_count, noted, with_abi, named_from};
 
 use std::alloc::Global;
@@ -76,7 +79,8 @@ fn note(
 
 /// Gives each method its ABI name: behind the first one of its name the numeral that says the how manieth it is.
 pub(crate) fn name_methods(alloc: Global, members: &mut [Member]) -> Result<(), Memory>
-    ensures { OnOk result (members.new ≡ named_from [] members.old) }
+    ensures value { OnOk result (members.new ≡ named_from [] members.old) }
+    ensures named { OnOk result (All IsRawMember members.old → All IsNamedMember members.new) }
 {
     let mut counts = BTreeMap::new(alloc);
     for i in 0..members.len() {

@@ -1,6 +1,8 @@
 //! Attributes that a declaration doesn't take, that stand a second time, or whose argument is wrong.
 
-ghost use Rattle.std.specs.Prelude.{◌≡◌, IfOk, Some, None, if◌then◌else◌};
+ghost use Rattle.std.specs.Prelude.{◌≡◌, ℕ, List, true, IfOk, OnOk, Some, None, if◌then◌else◌};
+ghost use Rattle.std.specs.BTreeSet.{contains_text};
+ghost use Rattle.std.specs.Str.{bytes_eq};
 ghost use Rattle.std.specs.Option.{is_some};
 ghost use Rattle.ranked.specs.First.{IsFirst, Among};
 ghost use Rattle.ranked.specs.Repeats.{Repeated};
@@ -129,6 +131,22 @@ pub(crate) fn unfits(alloc: Global, item: &Scoped) -> Result<Option<Refusal>, Me
     Ok(first)
 }
 
+/// The attribute, where one of its name was seen; its name is then seen.
+fn seen_again(
+    alloc: Global,
+    seen: &mut BTreeSet<String>,
+    item: &Scoped,
+    attribute: &AttributeNode,
+) -> Result<Option<Refusal>, Memory>
+    ensures again { IfOk result (λ r. r ≡ (if contains_text seen.old (called (attribute_view attribute.now)) then Some (attribute_entry (item_of item.now) (attribute_view attribute.now)) else None)) }
+    ensures seen { OnOk result ((name : List ℕ) → contains_text seen.new name ≡ (if bytes_eq (called (attribute_view attribute.now)) name then true else contains_text seen.old name)) }
+{
+    let name = String::from_str(alloc, called(attribute))?;
+    let added = seen.insert(name)?;
+    let broken = refuse_if(alloc, item, attribute, !added)?;
+    Ok(broken)
+}
+
 /// The first of the item's attributes that stand a second time.
 #[tactic(auto, using(ranked::proofs::FirstLaws::none_below, ranked::proofs::RepeatLaws::none_seen))]
 pub(crate) fn repeated(alloc: Global, item: &Scoped) -> Result<Option<Refusal>, Memory>
@@ -137,10 +155,8 @@ pub(crate) fn repeated(alloc: Global, item: &Scoped) -> Result<Option<Refusal>, 
     let mut seen = BTreeSet::new(alloc);
     let mut first = None;
     for attribute in &item.attributes {
-        let name = String::from_str(alloc, called(*attribute))?;
-        let added = seen.insert(name)?;
-        let broken = refuse_if(alloc, item, *attribute, !added)?;
-        first = earlier(first, broken);
+        let again = seen_again(alloc, &mut seen, item, *attribute)?;
+        first = earlier(first, again);
     }
     Ok(first)
 }

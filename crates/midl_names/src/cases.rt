@@ -3,7 +3,7 @@
 ghost use Rattle.std.specs.Prelude.{◌≡◌, ℕ, ◌+◌, ◌^◌, ◌≤◌, ◌≤ℤ◌, pos, neg_ℤ, IfOk};
 ghost use Rattle.std.specs.List.{All};
 ghost use Rattle.midl_names.specs.Members.{signed, value_or, cases_from};
-ghost use Rattle.midl_names.specs.Named.{IsName};
+ghost use Rattle.placed_items.specs.Named.{IsName};
 
 use crate::resolved::name_of;
 use midl_tree::{CaseNode, Value};

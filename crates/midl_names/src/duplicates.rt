@@ -1,6 +1,8 @@
 //! Items whose full name is taken, but for ASCII case.
 
-ghost use Rattle.std.specs.Prelude.{◌≡◌, IfOk, Some, None, map, string_bytes, if◌then◌else◌};
+ghost use Rattle.std.specs.Prelude.{◌≡◌, ℕ, List, true, IfOk, OnOk, Some, None, map, string_bytes, if◌then◌else◌};
+ghost use Rattle.std.specs.BTreeSet.{contains_text};
+ghost use Rattle.std.specs.Str.{bytes_eq};
 ghost use Rattle.ranked.specs.First.{IsFirst, Among};
 ghost use Rattle.ranked.specs.Repeats.{Repeated};
 ghost use Rattle.midl_names.specs.Duplicates.{lower_name, duplicate_entry, found_again};
@@ -46,6 +48,21 @@ pub(crate) fn found_again(alloc: Global, item: &Scoped) -> Result<Option<Refusal
     refuse_if(alloc, item, broken)
 }
 
+/// The item, where its full name was seen; its full name is then seen.
+fn seen_again(
+    alloc: Global,
+    seen: &mut BTreeSet<String>,
+    item: &Scoped,
+) -> Result<Option<Refusal>, Memory>
+    ensures again { IfOk result (λ r. r ≡ (if contains_text seen.old (lower_name (item_of item.now)) then Some (duplicate_entry (item_of item.now)) else None)) }
+    ensures seen { OnOk result ((name : List ℕ) → contains_text seen.new name ≡ (if bytes_eq (lower_name (item_of item.now)) name then true else contains_text seen.old name)) }
+{
+    let name = lower_name(alloc, item)?;
+    let added = seen.insert(name)?;
+    let broken = refuse_if(alloc, item, !added)?;
+    Ok(broken)
+}
+
 /// The first item whose full name an earlier one has.
 #[tactic(auto, using(ranked::proofs::FirstLaws::none_below, ranked::proofs::RepeatLaws::none_seen))]
 pub(crate) fn repeated_names(alloc: Global, items: &[Scoped]) -> Result<Option<Refusal>, Memory>
@@ -54,10 +71,8 @@ pub(crate) fn repeated_names(alloc: Global, items: &[Scoped]) -> Result<Option<R
     let mut seen = BTreeSet::new(alloc);
     let mut first = None;
     for item in items {
-        let name = lower_name(alloc, item)?;
-        let added = seen.insert(name)?;
-        let broken = refuse_if(alloc, item, !added)?;
-        first = earlier(first, broken);
+        let again = seen_again(alloc, &mut seen, item)?;
+        first = earlier(first, again);
     }
     Ok(first)
 }

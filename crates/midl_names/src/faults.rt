@@ -4,7 +4,7 @@ ghost use Rattle.std.specs.Prelude.{◌≡◌, ℕ, List, IfOk, map};
 ghost use Rattle.std.specs.BTreeMap.{get_by_text};
 ghost use Rattle.ranked.specs.First.{IsFirst, Among};
 ghost use Rattle.midl_names.specs.Lookup.{declared_sort};
-ghost use Rattle.midl_names.specs.Names.{Broken, NameFaults, WrittenFaults, ItemFaults};
+ghost use Rattle.midl_names.specs.Names.{Broken, NameFaults, DoubledFaults, WrittenFaults, UnfitFaults, ItemFaults};
 ghost use Rattle.midl_names.specs.Views.{item_of};
 
 use crate::attributes::{repeated, unfits};
@@ -25,24 +25,36 @@ fn name_faults(alloc: Global, index: &Index, item: &Scoped) -> Result<Option<Ref
     Ok(earlier(found, uses))
 }
 
+fn doubled_faults(alloc: Global, index: &Index, item: &Scoped) -> Result<Option<Refusal>, Memory>
+    ensures { IfOk result (IsFirst (DoubledFaults (get_by_text index.now.sorts) (item_of item.now))) }
+{
+    let doubled = doubled_in(alloc, item)?;
+    let names = name_faults(alloc, index, item)?;
+    Ok(earlier(doubled, names))
+}
+
 fn written_faults(alloc: Global, index: &Index, item: &Scoped) -> Result<Option<Refusal>, Memory>
     ensures { IfOk result (IsFirst (WrittenFaults (get_by_text index.now.sorts) (item_of item.now))) }
 {
     let misnamed = misnamed_in(alloc, item)?;
-    let doubled = doubled_in(alloc, item)?;
-    let names = name_faults(alloc, index, item)?;
-    let last = earlier(doubled, names);
-    Ok(earlier(misnamed, last))
+    let others = doubled_faults(alloc, index, item)?;
+    Ok(earlier(misnamed, others))
+}
+
+fn unfit_faults(alloc: Global, index: &Index, item: &Scoped) -> Result<Option<Refusal>, Memory>
+    ensures { IfOk result (IsFirst (UnfitFaults (get_by_text index.now.sorts) (item_of item.now))) }
+{
+    let unfit = unfits(alloc, item)?;
+    let written = written_faults(alloc, index, item)?;
+    Ok(earlier(unfit, written))
 }
 
 fn item_faults(alloc: Global, index: &Index, item: &Scoped) -> Result<Option<Refusal>, Memory>
     ensures { IfOk result (IsFirst (ItemFaults (get_by_text index.now.sorts) (item_of item.now))) }
 {
     let again = repeated(alloc, item)?;
-    let unfit = unfits(alloc, item)?;
-    let written = written_faults(alloc, index, item)?;
-    let last = earlier(unfit, written);
-    Ok(earlier(again, last))
+    let others = unfit_faults(alloc, index, item)?;
+    Ok(earlier(again, others))
 }
 
 fn all_item_faults(

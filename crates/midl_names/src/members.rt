@@ -2,12 +2,15 @@
 
 ghost use Rattle.std.specs.Prelude.{◌≡◌, ◌++◌, ◌∷◌, [], true, IfOk, OnOk, map, option_map};
 ghost use Rattle.std.specs.BTreeMap.{get_by_text};
-ghost use Rattle.std.specs.List.{flat_map};
+ghost use Rattle.std.specs.List.{All, flat_map};
 ghost use Rattle.midl_tree.specs.Views.{type_view, fields_view, param_view, member_view};
 ghost use Rattle.midl_names.specs.Members.{fields_of, members_of};
 ghost use Rattle.wr_base.specs.declared.declaration.Member.TheVariants.{Method, Property, Event};
 ghost use Rattle.midl_names.specs.Resolved.{resolved, signature_of};
+ghost use Rattle.midl_names.specs.RawMembers.{IsRawMember};
 ghost use Rattle.midl_names.specs.Views.{parts_of};
+ghost use Rattle.placed_items.specs.Named.{IsName};
+ghost use Rattle.wr_base.specs.declared.declaration.Field.{Field};
 
 use crate::resolved::{name_of, resolved, signature_of};
 use crate::scope::Scope;
@@ -20,7 +23,8 @@ fn push_field(
     kind: &TypeNode,
     name: &Ident,
 ) -> Result<(), Memory>
-    ensures { OnOk result (into.new.items ≡ into.old.items ++ record { name = name.now.text; ty = resolved (get_by_text scope.now.index.now.sorts) (parts_of scope.now.item.now.space.items) (type_view kind.now) } ∷ []) }
+    ensures value { OnOk result (into.new.items ≡ into.old.items ++ record { name = name.now.text; ty = resolved (get_by_text scope.now.index.now.sorts) (parts_of scope.now.item.now.space.items) (type_view kind.now) } ∷ []) }
+    ensures named { OnOk result (All (λ (f : Field). IsName f.name) into.old.items → All (λ (f : Field). IsName f.name) into.new.items) }
 {
     let name = name_of(scope.alloc, name)?;
     let ty = resolved(scope, kind)?;
@@ -29,7 +33,8 @@ fn push_field(
 }
 
 fn push_fields(into: &mut Vec<Field>, scope: &Scope, node: &FieldsNode) -> Result<(), Memory>
-    ensures { OnOk result (into.new.items ≡ into.old.items ++ fields_of (get_by_text scope.now.index.now.sorts) (parts_of scope.now.item.now.space.items) (fields_view node.now)) }
+    ensures value { OnOk result (into.new.items ≡ into.old.items ++ fields_of (get_by_text scope.now.index.now.sorts) (parts_of scope.now.item.now.space.items) (fields_view node.now)) }
+    ensures named { OnOk result (All (λ (f : Field). IsName f.name) into.old.items → All (λ (f : Field). IsName f.name) into.new.items) }
 {
     for name in &node.names {
         push_field(into, scope, &node.kind, name)?;
@@ -39,7 +44,8 @@ fn push_fields(into: &mut Vec<Field>, scope: &Scope, node: &FieldsNode) -> Resul
 
 /// A field for each name.
 pub(crate) fn fields_of(scope: &Scope, nodes: &[FieldsNode]) -> Result<Fields, Memory>
-    ensures { IfOk result (λ fs. fs ≡ flat_map (fields_of (get_by_text scope.now.index.now.sorts) (parts_of scope.now.item.now.space.items)) (map fields_view nodes.now)) }
+    ensures value { IfOk result (λ fs. fs ≡ flat_map (fields_of (get_by_text scope.now.index.now.sorts) (parts_of scope.now.item.now.space.items)) (map fields_view nodes.now)) }
+    ensures named { IfOk result (λ fs. All (λ (f : Field). IsName f.name) fs) }
 {
     let mut fields = Vec::new(scope.alloc);
     for node in nodes {
@@ -55,7 +61,8 @@ fn push_property(
     name: &Ident,
     put: bool,
 ) -> Result<(), Memory>
-    ensures { OnOk result (into.new.items ≡ into.old.items ++ Property name.now.text (resolved (get_by_text scope.now.index.now.sorts) (parts_of scope.now.item.now.space.items) (type_view kind.now)) put ∷ []) }
+    ensures value { OnOk result (into.new.items ≡ into.old.items ++ Property name.now.text (resolved (get_by_text scope.now.index.now.sorts) (parts_of scope.now.item.now.space.items) (type_view kind.now)) put ∷ []) }
+    ensures named { OnOk result (All IsRawMember into.old.items → All IsRawMember into.new.items) }
 {
     let name = name_of(scope.alloc, name)?;
     let ty = resolved(scope, kind)?;
@@ -69,7 +76,8 @@ fn push_properties(
     kind: &TypeNode,
     names: &[Ident],
 ) -> Result<(), Memory>
-    ensures { OnOk result (into.new.items ≡ into.old.items ++ map (λ n. Property n.text (resolved (get_by_text scope.now.index.now.sorts) (parts_of scope.now.item.now.space.items) (type_view kind.now)) true) names.now) }
+    ensures value { OnOk result (into.new.items ≡ into.old.items ++ map (λ n. Property n.text (resolved (get_by_text scope.now.index.now.sorts) (parts_of scope.now.item.now.space.items) (type_view kind.now)) true) names.now) }
+    ensures named { OnOk result (All IsRawMember into.old.items → All IsRawMember into.new.items) }
 {
     for name in names {
         push_property(into, scope, kind, name, true)?;
@@ -78,7 +86,8 @@ fn push_properties(
 }
 
 fn event_of(scope: &Scope, kind: &TypeNode, name: &Ident) -> Result<Member, Memory>
-    ensures { IfOk result (λ m. m ≡ Event name.now.text (resolved (get_by_text scope.now.index.now.sorts) (parts_of scope.now.item.now.space.items) (type_view kind.now))) }
+    ensures value { IfOk result (λ m. m ≡ Event name.now.text (resolved (get_by_text scope.now.index.now.sorts) (parts_of scope.now.item.now.space.items) (type_view kind.now))) }
+    ensures named { IfOk result IsRawMember }
 {
     let name = name_of(scope.alloc, name)?;
     let ty = resolved(scope, kind)?;
@@ -91,7 +100,8 @@ fn method_of(
     name: &Ident,
     params: &[ParamNode],
 ) -> Result<Member, Memory>
-    ensures { IfOk result (λ m. m ≡ Method name.now.text [] (signature_of (get_by_text scope.now.index.now.sorts) (parts_of scope.now.item.now.space.items) (option_map type_view outcome.now) (map param_view params.now))) }
+    ensures value { IfOk result (λ m. m ≡ Method name.now.text [] (signature_of (get_by_text scope.now.index.now.sorts) (parts_of scope.now.item.now.space.items) (option_map type_view outcome.now) (map param_view params.now))) }
+    ensures named { IfOk result IsRawMember }
 {
     let name = name_of(scope.alloc, name)?;
     let sig = signature_of(scope, outcome, params)?;
@@ -105,7 +115,8 @@ pub(crate) fn push_members(
     scope: &Scope,
     node: &MemberNode,
 ) -> Result<(), Memory>
-    ensures { OnOk result (into.new.items ≡ into.old.items ++ members_of (get_by_text scope.now.index.now.sorts) (parts_of scope.now.item.now.space.items) (member_view node.now)) }
+    ensures value { OnOk result (into.new.items ≡ into.old.items ++ members_of (get_by_text scope.now.index.now.sorts) (parts_of scope.now.item.now.space.items) (member_view node.now)) }
+    ensures named { OnOk result (All IsRawMember into.old.items → All IsRawMember into.new.items) }
 {
     match node {
         MemberNode::Method(outcome, name, params) => {

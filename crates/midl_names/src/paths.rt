@@ -2,7 +2,7 @@
 
 ghost use Rattle.std.specs.Prelude.{◌≡◌, ◌++◌, ◌∷◌, [], ◌<◌, IfOk, OnOk, IsTrue, string_bytes, length};
 ghost use Rattle.std.specs.List.{All, flat_map};
-ghost use Rattle.wr_base.specs.Paths.{is_identifier};
+ghost use Rattle.wr_base.specs.Paths.{is_identifier, is_path};
 ghost use Rattle.midl_tree.specs.Views.{decl_view};
 ghost use Rattle.midl_names.specs.Items.{own_name, prefix};
 ghost use Rattle.midl_names.specs.Uses.{dotted, first_offset};
@@ -50,7 +50,8 @@ pub(crate) fn push_prefix(text: &mut String, space: &[&Ident]) -> Result<(), Mem
 /// The full name in a namespace.
 pub(crate) fn full_name(alloc: Global, space: &[&Ident], name: &Ident) -> Result<FullName, Memory>
     requires { 0 < length space.now }
-    ensures { IfOk result (λ full. full ≡ prefix (parts_of space.now) ++ name.now.text) }
+    ensures value { IfOk result (λ full. full ≡ prefix (parts_of space.now) ++ name.now.text) }
+    ensures path { IfOk result (λ full. IsTrue (is_path full)) }
 {
     let mut text = String::new(alloc);
     push_prefix(&mut text, space)?;

@@ -2,12 +2,14 @@
 
 ghost use Rattle.std.specs.Prelude.{◌≡◌, IfOk, map, option_map, string_bytes};
 ghost use Rattle.std.specs.BTreeMap.{get_by_text};
+ghost use Rattle.std.specs.List.{All};
 ghost use Rattle.midl_tree.specs.Views.{type_view, param_view};
 ghost use Rattle.midl_names.specs.Lookup.{look_up};
-ghost use Rattle.midl_names.specs.Named.{IsName};
 ghost use Rattle.midl_names.specs.Resolved.{use_of, resolved, param_of, signature_of};
 ghost use Rattle.midl_names.specs.Uses.{dotted};
 ghost use Rattle.midl_names.specs.Views.{parts_of};
+ghost use Rattle.placed_items.specs.Named.{IsName, HasNamedParams};
+ghost use Rattle.wr_base.specs.declared.declaration.Param.{Param};
 
 use crate::hit::Hit;
 use crate::index::Index;
@@ -80,7 +82,8 @@ pub(crate) fn name_of(alloc: Global, name: &Ident) -> Result<Name, Memory>
 }
 
 fn param_of(scope: &Scope, node: &ParamNode) -> Result<Param, Memory>
-    ensures { IfOk result (λ p. p ≡ param_of (get_by_text scope.now.index.now.sorts) (parts_of scope.now.item.now.space.items) (param_view node.now)) }
+    ensures value { IfOk result (λ p. p ≡ param_of (get_by_text scope.now.index.now.sorts) (parts_of scope.now.item.now.space.items) (param_view node.now)) }
+    ensures named { IfOk result (λ p. IsName p.name) }
 {
     let name = name_of(scope.alloc, &node.name)?;
     let ty = resolved(scope, &node.kind)?;
@@ -92,7 +95,8 @@ fn param_of(scope: &Scope, node: &ParamNode) -> Result<Param, Memory>
 }
 
 fn params_of(scope: &Scope, nodes: &[ParamNode]) -> Result<Params, Memory>
-    ensures { IfOk result (λ ps. ps ≡ map (param_of (get_by_text scope.now.index.now.sorts) (parts_of scope.now.item.now.space.items)) (map param_view nodes.now)) }
+    ensures value { IfOk result (λ ps. ps ≡ map (param_of (get_by_text scope.now.index.now.sorts) (parts_of scope.now.item.now.space.items)) (map param_view nodes.now)) }
+    ensures named { IfOk result (λ ps. All (λ (p : Param). IsName p.name) ps) }
 {
     let mut params = Vec::new(scope.alloc);
     for node in nodes {
@@ -116,7 +120,8 @@ pub(crate) fn signature_of(
     outcome: &Option<TypeNode>,
     params: &[ParamNode],
 ) -> Result<Signature, Memory>
-    ensures { IfOk result (λ s. s ≡ signature_of (get_by_text scope.now.index.now.sorts) (parts_of scope.now.item.now.space.items) (option_map type_view outcome.now) (map param_view params.now)) }
+    ensures value { IfOk result (λ s. s ≡ signature_of (get_by_text scope.now.index.now.sorts) (parts_of scope.now.item.now.space.items) (option_map type_view outcome.now) (map param_view params.now)) }
+    ensures named { IfOk result HasNamedParams }
 {
     let params = params_of(scope, params)?;
     let result = result_of(scope, outcome)?;

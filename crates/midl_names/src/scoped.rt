@@ -1,4 +1,5 @@
-ghost use Rattle.std.specs.Prelude.{◌≡◌, ◌++◌, map};
+ghost use Rattle.std.specs.Prelude.{◌≡◌, ◌++◌, map, IsTrue};
+ghost use Rattle.wr_base.specs.Paths.{is_path};
 ghost use Rattle.midl_tree.specs.Views.{decl_view};
 ghost use Rattle.midl_names.specs.Items.{own_name, prefix};
 
@@ -14,4 +15,5 @@ pub(crate) struct Scoped<'a> {
     pub(crate) attributes: Vec<&'a AttributeNode>,
     pub(crate) tree: &'a DeclNode,
     ghost named: { full ≡ prefix (map (λ t. t.now.text) space.items) ++ (own_name (decl_view tree.now)).text },
+    ghost path: { IsTrue (is_path full) },
 }

@@ -2,12 +2,13 @@
 
 ghost use Rattle.std.specs.Prelude.{◌≡◌, ◌++◌, true, false, IfOk, OnOk, map, unwrap_or};
 ghost use Rattle.std.specs.BTreeMap.{get_by_text};
-ghost use Rattle.std.specs.List.{flat_map};
+ghost use Rattle.std.specs.List.{All, flat_map};
 ghost use Rattle.midl_tree.specs.Views.{member_view, class_member_view, struct_view, delegate_view, interface_view, class_view, decl_view, enum_view};
 ghost use Rattle.midl_names.specs.Declares.{members_on, members_in, constructors_of, enum_of, struct_of, delegate_of, interface_of, class_of, written_by, placed_of};
 ghost use Rattle.midl_names.specs.Members.{members_of};
-ghost use Rattle.midl_names.specs.Named.{AreNamed, CasesAreNamed, WrittenIsNamed};
+ghost use Rattle.midl_names.specs.RawMembers.{IsRawMember};
 ghost use Rattle.midl_names.specs.Views.{item_of, parts_of};
+ghost use Rattle.placed_items.specs.Named.{HasNamedParams, IsNamedMember, IsNamedClass, IsNamedDeclaration, HasNamedParts, AreNamed};
 
 use crate::abi::name_methods;
 use crate::cases::cases_of;
@@ -27,7 +28,8 @@ use std::alloc::Global;
 use wr_base::{Declaration, Listed, Member, Members, Memory, Signature};
 
 fn raw_members(scope: &Scope, nodes: &[MemberNode]) -> Result<Vec<Member>, Memory>
-    ensures { IfOk result (λ ms. ms.items ≡ flat_map (members_of (get_by_text scope.now.index.now.sorts) (parts_of scope.now.item.now.space.items)) (map member_view nodes.now)) }
+    ensures value { IfOk result (λ ms. ms.items ≡ flat_map (members_of (get_by_text scope.now.index.now.sorts) (parts_of scope.now.item.now.space.items)) (map member_view nodes.now)) }
+    ensures named { IfOk result (λ ms. All IsRawMember ms.items) }
 {
     let mut members = Vec::new(scope.alloc);
     for node in nodes {
@@ -37,7 +39,8 @@ fn raw_members(scope: &Scope, nodes: &[MemberNode]) -> Result<Vec<Member>, Memor
 }
 
 fn interface_members(scope: &Scope, nodes: &[MemberNode]) -> Result<Members, Memory>
-    ensures { IfOk result (λ ms. ms ≡ members_in (get_by_text scope.now.index.now.sorts) (parts_of scope.now.item.now.space.items) (map member_view nodes.now)) }
+    ensures value { IfOk result (λ ms. ms ≡ members_in (get_by_text scope.now.index.now.sorts) (parts_of scope.now.item.now.space.items) (map member_view nodes.now)) }
+    ensures named { IfOk result (λ ms. All IsNamedMember ms) }
 {
     let mut members = raw_members(scope, nodes)?;
     name_methods(scope.alloc, &mut members)?;
@@ -50,7 +53,8 @@ fn push_on(
     side: bool,
     node: &ClassMemberNode,
 ) -> Result<(), Memory>
-    ensures { OnOk result (into.new.items ≡ into.old.items ++ flat_map (members_of (get_by_text scope.now.index.now.sorts) (parts_of scope.now.item.now.space.items)) (members_on side (class_member_view node.now))) }
+    ensures value { OnOk result (into.new.items ≡ into.old.items ++ flat_map (members_of (get_by_text scope.now.index.now.sorts) (parts_of scope.now.item.now.space.items)) (members_on side (class_member_view node.now))) }
+    ensures named { OnOk result (All IsRawMember into.old.items → All IsRawMember into.new.items) }
 {
     match node {
         ClassMemberNode::Member(fixed, member) => {
@@ -64,7 +68,8 @@ fn push_on(
 }
 
 fn raw_side(scope: &Scope, side: bool, nodes: &[ClassMemberNode]) -> Result<Vec<Member>, Memory>
-    ensures { IfOk result (λ ms. ms.items ≡ flat_map (members_of (get_by_text scope.now.index.now.sorts) (parts_of scope.now.item.now.space.items)) (flat_map (members_on side) (map class_member_view nodes.now))) }
+    ensures value { IfOk result (λ ms. ms.items ≡ flat_map (members_of (get_by_text scope.now.index.now.sorts) (parts_of scope.now.item.now.space.items)) (flat_map (members_on side) (map class_member_view nodes.now))) }
+    ensures named { IfOk result (λ ms. All IsRawMember ms.items) }
 {
     let mut members = Vec::new(scope.alloc);
     for node in nodes {
@@ -74,7 +79,8 @@ fn raw_side(scope: &Scope, side: bool, nodes: &[ClassMemberNode]) -> Result<Vec<
 }
 
 fn side_members(scope: &Scope, side: bool, nodes: &[ClassMemberNode]) -> Result<Members, Memory>
-    ensures { IfOk result (λ ms. ms ≡ members_in (get_by_text scope.now.index.now.sorts) (parts_of scope.now.item.now.space.items) (flat_map (members_on side) (map class_member_view nodes.now))) }
+    ensures value { IfOk result (λ ms. ms ≡ members_in (get_by_text scope.now.index.now.sorts) (parts_of scope.now.item.now.space.items) (flat_map (members_on side) (map class_member_view nodes.now))) }
+    ensures named { IfOk result (λ ms. All IsNamedMember ms) }
 {
     let mut members = raw_side(scope, side, nodes)?;
     name_methods(scope.alloc, &mut members)?;
@@ -86,7 +92,8 @@ fn push_constructor(
     scope: &Scope,
     node: &ClassMemberNode,
 ) -> Result<(), Memory>
-    ensures { OnOk result (into.new.items ≡ into.old.items ++ constructors_of (get_by_text scope.now.index.now.sorts) (parts_of scope.now.item.now.space.items) (class_member_view node.now)) }
+    ensures value { OnOk result (into.new.items ≡ into.old.items ++ constructors_of (get_by_text scope.now.index.now.sorts) (parts_of scope.now.item.now.space.items) (class_member_view node.now)) }
+    ensures named { OnOk result (All HasNamedParams into.old.items → All HasNamedParams into.new.items) }
 {
     match node {
         ClassMemberNode::Member(..) => Ok(()),
@@ -98,7 +105,8 @@ fn push_constructor(
 }
 
 fn constructors_of(scope: &Scope, nodes: &[ClassMemberNode]) -> Result<Signatures, Memory>
-    ensures { IfOk result (λ ss. ss ≡ flat_map (constructors_of (get_by_text scope.now.index.now.sorts) (parts_of scope.now.item.now.space.items)) (map class_member_view nodes.now)) }
+    ensures value { IfOk result (λ ss. ss ≡ flat_map (constructors_of (get_by_text scope.now.index.now.sorts) (parts_of scope.now.item.now.space.items)) (map class_member_view nodes.now)) }
+    ensures named { IfOk result (λ ss. All HasNamedParams ss) }
 {
     let mut signatures = Vec::new(scope.alloc);
     for node in nodes {
@@ -110,6 +118,8 @@ fn constructors_of(scope: &Scope, nodes: &[ClassMemberNode]) -> Result<Signature
 fn both_sides(scope: &Scope, nodes: &[ClassMemberNode]) -> Result<(Members, Members), Memory>
     ensures own { IfOk result (λ p. p.0 ≡ members_in (get_by_text scope.now.index.now.sorts) (parts_of scope.now.item.now.space.items) (flat_map (members_on false) (map class_member_view nodes.now))) }
     ensures statics { IfOk result (λ p. p.1 ≡ members_in (get_by_text scope.now.index.now.sorts) (parts_of scope.now.item.now.space.items) (flat_map (members_on true) (map class_member_view nodes.now))) }
+    ensures own_named { IfOk result (λ p. All IsNamedMember p.0) }
+    ensures statics_named { IfOk result (λ p. All IsNamedMember p.1) }
 {
     let members = side_members(scope, false, nodes)?;
     let statics = side_members(scope, true, nodes)?;
@@ -117,7 +127,8 @@ fn both_sides(scope: &Scope, nodes: &[ClassMemberNode]) -> Result<(Members, Memb
 }
 
 fn class_of(scope: &Scope, node: &ClassNode) -> Result<WrittenClass, Memory>
-    ensures { IfOk result (λ w. w ≡ class_of (get_by_text scope.now.index.now.sorts) (item_of scope.now.item.now) (class_view node.now)) }
+    ensures value { IfOk result (λ w. w ≡ class_of (get_by_text scope.now.index.now.sorts) (item_of scope.now.item.now) (class_view node.now)) }
+    ensures named { IfOk result IsNamedClass }
 {
     let name = scope.item.full.clone()?;
     let listed = resolved_list(scope, &node.bases)?;
@@ -146,7 +157,7 @@ fn id_or_zero(id: Option<u128>) -> u128
 
 fn enum_of(scope: &Scope, node: &EnumNode) -> Result<Declaration, Memory>
     ensures value { IfOk result (λ d. d ≡ enum_of (item_of scope.now.item.now) (enum_view node.now)) }
-    ensures named { IfOk result CasesAreNamed }
+    ensures named { IfOk result IsNamedDeclaration }
 {
     let name = scope.item.full.clone()?;
     let cases = cases_of(scope.alloc, &node.cases)?;
@@ -159,7 +170,8 @@ fn enum_of(scope: &Scope, node: &EnumNode) -> Result<Declaration, Memory>
 }
 
 fn struct_of(scope: &Scope, node: &StructNode) -> Result<Declaration, Memory>
-    ensures { IfOk result (λ d. d ≡ struct_of (get_by_text scope.now.index.now.sorts) (item_of scope.now.item.now) (struct_view node.now)) }
+    ensures value { IfOk result (λ d. d ≡ struct_of (get_by_text scope.now.index.now.sorts) (item_of scope.now.item.now) (struct_view node.now)) }
+    ensures named { IfOk result IsNamedDeclaration }
 {
     let name = scope.item.full.clone()?;
     let fields = fields_of(scope, &node.fields)?;
@@ -171,7 +183,8 @@ fn struct_of(scope: &Scope, node: &StructNode) -> Result<Declaration, Memory>
 }
 
 fn delegate_of(scope: &Scope, node: &DelegateNode) -> Result<Declaration, Memory>
-    ensures { IfOk result (λ d. d ≡ delegate_of (get_by_text scope.now.index.now.sorts) (item_of scope.now.item.now) (delegate_view node.now)) }
+    ensures value { IfOk result (λ d. d ≡ delegate_of (get_by_text scope.now.index.now.sorts) (item_of scope.now.item.now) (delegate_view node.now)) }
+    ensures named { IfOk result IsNamedDeclaration }
 {
     let name = scope.item.full.clone()?;
     let invoke = signature_of(scope, &node.outcome, &node.params)?;
@@ -184,7 +197,8 @@ fn delegate_of(scope: &Scope, node: &DelegateNode) -> Result<Declaration, Memory
 }
 
 fn interface_of(scope: &Scope, node: &InterfaceNode) -> Result<Declaration, Memory>
-    ensures { IfOk result (λ d. d ≡ interface_of (get_by_text scope.now.index.now.sorts) (item_of scope.now.item.now) (interface_view node.now)) }
+    ensures value { IfOk result (λ d. d ≡ interface_of (get_by_text scope.now.index.now.sorts) (item_of scope.now.item.now) (interface_view node.now)) }
+    ensures named { IfOk result IsNamedDeclaration }
 {
     let name = scope.item.full.clone()?;
     let required = resolved_list(scope, &node.required)?;
@@ -201,7 +215,7 @@ fn interface_of(scope: &Scope, node: &InterfaceNode) -> Result<Declaration, Memo
 
 fn written_of(scope: &Scope) -> Result<Written, Memory>
     ensures value { IfOk result (λ w. w ≡ written_by (get_by_text scope.now.index.now.sorts) (item_of scope.now.item.now) (decl_view scope.now.item.now.tree.now)) }
-    ensures named { IfOk result WrittenIsNamed }
+    ensures named { IfOk result HasNamedParts }
 {
     match scope.item.tree {
         DeclNode::Enum(node) => Ok(Written::Done(enum_of(scope, node)?)),
@@ -214,7 +228,7 @@ fn written_of(scope: &Scope) -> Result<Written, Memory>
 
 fn placed_of(alloc: Global, index: &Index, item: &Scoped) -> Result<PlacedItem, Memory>
     ensures value { IfOk result (λ p. p ≡ placed_of (get_by_text index.now.sorts) (item_of item.now)) }
-    ensures named { IfOk result (λ p. WrittenIsNamed p.item) }
+    ensures named { IfOk result (λ p. HasNamedParts p.item) }
 {
     let scope = Scope { alloc, index, item };
     let places = places_of(alloc, item)?;

@@ -3,7 +3,7 @@ use Rattle.std.proofs.Common.{◌≡◌, ℕ, List, sym, ap, subst, ◌∙◌}
 use Rattle.wr_base.specs.declared.declaration.Case.{Case}
 use Rattle.wr_base.specs.declared.declaration.Declaration.{Declaration}
 use Rattle.wr_base.specs.declared.declaration.Declaration.TheVariants.{Enum, Struct, Delegate, Interface, Class}
-use Rattle.midl_names.specs.Named.{IsName, CasesAreNamed}
+use Rattle.placed_items.specs.Named.{IsName, IsNamedDeclaration}
 use Rattle.winmd_laws.proofs.Writers.{image_strict, image_states_it}
 use Rattle.winmd_laws.specs.Meaning.{Strict, TypesOf}
 use Rattle.winmd_rows.specs.Fits.{CaseFits, Fits, IsInt32}
@@ -14,7 +14,7 @@ use Rattle.wr_tools.specs.SmallEnum.{IsSmallEnum}
 case_fits : (c : Case) → IsName c.name → IsInt32 c.value → CaseFits c
 case_fits c p v = record { named = p.identifier; short = p.short; value = v }
 
-pub fits : (d : Declaration) → CasesAreNamed d → IsSmallEnum d → Fits d
+pub fits : (d : Declaration) → IsNamedDeclaration d → IsSmallEnum d → Fits d
 fits (Enum name version flags cases) p s = record {
   path = s.path;
   short = s.short;

@@ -1,7 +1,7 @@
 //! The image of a source set that declares one enum alone.
 
 ghost use Rattle.std.specs.Prelude.{◌≡◌, IfOk};
-ghost use Rattle.midl_names.specs.Named.{AreNamed, CasesAreNamed, WrittenIsNamed};
+ghost use Rattle.placed_items.specs.Named.{AreNamed, IsNamedDeclaration, HasNamedParts};
 ghost use Rattle.wr_tools.specs.Made.{Makes, MakesItem, MakesOne, bytes_of};
 
 use crate::bare::are_bare;
@@ -13,7 +13,7 @@ use std::alloc::Global;
 use wr_base::{Declaration, Memory};
 
 fn image_of_one(alloc: Global, declaration: &Declaration) -> Result<Option<Vec<u8>>, Memory>
-    requires { CasesAreNamed declaration.now }
+    requires { IsNamedDeclaration declaration.now }
     ensures { IfOk result (λ made. MakesOne declaration.now (bytes_of made)) }
 {
     if !is_small_enum(alloc, declaration)? {
@@ -24,7 +24,7 @@ fn image_of_one(alloc: Global, declaration: &Declaration) -> Result<Option<Vec<u
 }
 
 fn image_of_item(alloc: Global, item: &PlacedItem) -> Result<Option<Vec<u8>>, Memory>
-    requires { WrittenIsNamed item.now.item }
+    requires { HasNamedParts item.now.item }
     ensures { IfOk result (λ made. MakesItem item.now (bytes_of made)) }
 {
     match &item.item {

@@ -4,6 +4,7 @@ use Rattle.wr_base.specs.declared.declaration.Member.{Member}
 use Rattle.midl_names.specs.Counts.{count_at}
 use Rattle.midl_names.specs.Members.{is_method, told_count, count_before, noted, with_abi}
 use Rattle.midl_names.proofs.AbiNames.{untouched, named_more, told_same, told_more, few}
+use Rattle.midl_names.proofs.NamedLaws.{named_all, named_done}
 use Rattle.midl_names.proofs.abi.name_methods.Goals as goal
 
 -- two reads of one place
@@ -46,3 +47,6 @@ loop-i-preserved c =
       told = told_more c.args.members.now c.loop-i.i c.index-members-i-in-loop-i.result c.count_of-count.result (count_at c.loop-i.counts)
           (count_at c.note.new.counts) l e2 k2 (λ name. c.in_ok-note.ensures name ∙ ap (λ (m : Member). noted c.count_of-count.result m (count_at c.loop-i.counts) name) (sym c.index-members-i-in-loop-i.is)) c.loop-i.invariant.told;
     }
+
+pub returns-clause-named : goal.returns-clause-named
+returns-clause-named c = named_all c.args.members.now c.loop-i.members (search rules) (named_done c.args.members.now c.loop-i.members c.loop-i.i (search rules) c.loop-i.invariant.named)

@@ -1,25 +1,27 @@
-use Rattle.std.proofs.Common.{rules, arith, string_bytes, true, subst, ◌∙◌}
+use Rattle.std.proofs.Common.{rules, arith, refl, not, Some, None, cond, ap, sym, subst, ◌∙◌}
 use Rattle.std.specs.BTreeSet.{contains_text}
-use Rattle.std.proofs.lemmas.Map.Text.{btree_set_updates_text}
 use Rattle.ranked.specs.First.{IsFirst}
 use Rattle.ranked.specs.Repeats.{Repeated}
 use Rattle.ranked.proofs.RepeatLaws.{seen_more, repeat_more}
 use Rattle.midl_tree.specs.Views.{attribute_view}
 use Rattle.midl_names.specs.Attributes.{called, attribute_entry}
 use Rattle.midl_names.specs.Views.{item_of, attributes_of}
-use Rattle.midl_names.proofs.Firsts.{viewed_repeats}
+use Rattle.midl_names.proofs.Firsts.{viewed_repeats, not_not}
 use Rattle.midl_names.proofs.attributes.repeated.Goals as goal
 
 pub loop-attribute-preserved : goal.loop-attribute-preserved
 loop-attribute-preserved c =
-    let same = c.in_ok-name.ensures.ok ∙ c.called.ensures in
+    let name = called (attribute_view c.attribute-item.result.now) in
+    let had = contains_text c.loop-attribute.seen in
     record {
-      first = repeat_more (λ x. called (attribute_view x.now)) (λ x. attribute_entry (item_of c.args.item.now) (attribute_view x.now)) c.deref-attribute-items.result.now c.loop-attribute.attribute-index c.attribute-item.result (string_bytes c.in_ok-name.name) (contains_text c.loop-attribute.seen)
-          c.in_ok-added.added c.loop-attribute.first c.in_ok-broken.broken c.earlier-first.result (search rules) c.attribute-item.is same
-          c.loop-attribute.invariant.told c.in_ok-added.ensures.added c.in_ok-broken.ensures c.earlier-first.ensures c.loop-attribute.invariant.first;
-      told = seen_more (λ x. called (attribute_view x.now)) c.deref-attribute-items.result.now c.loop-attribute.attribute-index c.attribute-item.result (string_bytes c.in_ok-name.name)
-          (contains_text c.loop-attribute.seen) (contains_text c.insert.new.self) (search rules) c.attribute-item.is same
-          (btree_set_updates_text (string_bytes c.in_ok-name.name) c.loop-attribute.seen c.insert.new.self true c.in_ok-added.ensures.updates)
+      first = repeat_more (λ x. called (attribute_view x.now)) (λ x. attribute_entry (item_of c.args.item.now) (attribute_view x.now)) c.deref-attribute-items.result.now c.loop-attribute.attribute-index c.attribute-item.result name had
+          (not (had name)) c.loop-attribute.first c.in_ok-again.again c.earlier-first.result (search rules) c.attribute-item.is refl
+          c.loop-attribute.invariant.told refl
+          (c.in_ok-again.ensures.again ∙ ap (λ b. cond b (Some (attribute_entry (item_of c.args.item.now) (attribute_view c.attribute-item.result.now))) None) (sym (not_not (had name))))
+          c.earlier-first.ensures c.loop-attribute.invariant.first;
+      told = seen_more (λ x. called (attribute_view x.now)) c.deref-attribute-items.result.now c.loop-attribute.attribute-index c.attribute-item.result name
+          had (contains_text c.seen_again.new.seen) (search rules) c.attribute-item.is refl
+          c.in_ok-again.ensures.seen
           c.loop-attribute.invariant.told;
     }
 

@@ -4,7 +4,7 @@ use mir.Val.{of_z, to_z}
 use Rattle.std.proofs.lemmas.Int.{ints}
 use Rattle.std.proofs.lemmas.List.Elements.{All-push}
 use Rattle.wr_base.specs.declared.declaration.Case.{Case}
-use Rattle.midl_names.specs.Named.{IsName}
+use Rattle.placed_items.specs.Named.{IsName}
 use Rattle.midl_names.proofs.CaseTurns.{numbered_more}
 use Rattle.midl_names.proofs.cases.cases_of.Goals as goal
 

@@ -1,7 +1,7 @@
 use Rattle.std.proofs.Common.{◌≡◌, ◌++◌, ◌+◌, ◌^◌, pos, neg_ℤ, ◌≤ℤ◌, drop}
 use Rattle.std.specs.List.{All}
 use Rattle.wr_base.specs.declared.declaration.Case.{Case}
-use Rattle.midl_names.specs.Named.{IsName}
+use Rattle.placed_items.specs.Named.{IsName}
 use Rattle.midl_names.specs.Members.{cases_from}
 use Rattle.midl_names.proofs.cases.cases_of.Given as goal
 

@@ -2,4 +2,4 @@ use Rattle.ranked.proofs.FirstLaws.{union_as}
 use Rattle.midl_names.proofs.faults.written_faults.Goals as goal
 
 pub returns : goal.returns
-returns c = union_as _ _ _ _ _ c.earlier.ensures c.in_ok-misnamed.ensures (union_as _ _ _ _ _ c.earlier-last.ensures c.in_ok-doubled.ensures c.in_ok-names.ensures)
+returns c = union_as _ _ _ _ _ c.earlier.ensures c.in_ok-misnamed.ensures c.in_ok-others.ensures

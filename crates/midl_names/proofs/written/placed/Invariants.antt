@@ -1,6 +1,6 @@
 use Rattle.std.proofs.Common.{◌≡◌, map, take}
 use Rattle.std.specs.BTreeMap.{get_by_text}
-use Rattle.midl_names.specs.Named.{AreNamed}
+use Rattle.placed_items.specs.Named.{AreNamed}
 use Rattle.midl_names.specs.Declares.{placed_of}
 use Rattle.midl_names.specs.Views.{item_of}
 use Rattle.midl_names.proofs.written.placed.Given as goal

@@ -1,0 +1,5 @@
+use Rattle.ranked.proofs.FirstLaws.{union_as}
+use Rattle.midl_names.proofs.faults.doubled_faults.Goals as goal
+
+pub returns : goal.returns
+returns c = union_as _ _ _ _ _ c.earlier.ensures c.in_ok-doubled.ensures c.in_ok-names.ensures
