@@ -22,7 +22,12 @@ use Rattle.placed_items.specs.Items.{parts_in, HasPlaces}
 use Rattle.closed_lists.specs.Closures.{IsClosing, with_list}
 use Rattle.made_interfaces.specs.Made.{where_, with_id, made_sites, makes_default, makes_statics, makes_factory, default_site, statics_site, factory_site, sites_by, item_sites, raw, chosen, takes_some}
 use Rattle.made_interfaces.proofs.Building.{methods_length}
-use Rattle.class_synthesis.specs.Full.{in_order, IsFull, HasPart, HasParts}
+use Rattle.place_laws.specs.Shapes.{FitPlaces}
+use Rattle.class_synthesis.specs.Full.{in_order, IsFull}
+
+-- a declaration has a place for each of its members, cases or fields
+abbrev HasPart : Site → Type 0
+HasPart s = length s.places.parts ≡ part_count s.decl
 
 -- of all sites of a list
 abbrev Fit : List Site → Type 0
@@ -112,7 +117,16 @@ ordered_fit : (sites : List Site) → Fit sites → Fit (map in_order sites)
 ordered_fit [] f = tt
 ordered_fit (s ∷ ss) f = (f.0 ∙ sym (normal_count s.decl), ordered_fit ss f.1)
 
-pub full_parts : (items : List PlacedItem) (types : List Declaration) (places : List DeclPlaces) → IsFull items types places → HasPlaces items → HasParts types places
+fit_places : (types : List Declaration) (places : List DeclPlaces) → length places ≡ length types → All HasPart (sites_of types places) → FitPlaces types places
+fit_places [] [] n h = refl
+fit_places [] (p ∷ ps) n h = absurd (omega (arith, n))
+fit_places (d ∷ ds) [] n h = absurd (omega (arith, n))
+fit_places (d ∷ ds) (p ∷ ps) n h =
+    ap (λ k. k ∷ map (λ (q : DeclPlaces). length q.parts) ps) (h 0 (record { decl = d; places = p }) (omega arith))
+    ∙ ap (λ ks. part_count d ∷ ks) (fit_places ds ps (omega (arith, n)) (λ k s l. h (suc k) s (omega (arith, l))))
+
+pub full_parts : (items : List PlacedItem) (types : List Declaration) (places : List DeclPlaces) → IsFull items types places → HasPlaces items → FitPlaces types places
 full_parts items types places full has =
-    All-permutation HasPart (map in_order full.closed) (sites_of types places) full.sites
-    (fit_all (map in_order full.closed) (ordered_fit full.closed (closed_fit (map (λ (s : Site). s.decl) (raw items)) (raw items) full.closed full.each (raw_fits items has))))
+    fit_places types places full.size
+    (All-permutation HasPart (map in_order full.closed) (sites_of types places) full.sites
+    (fit_all (map in_order full.closed) (ordered_fit full.closed (closed_fit (map (λ (s : Site). s.decl) (raw items)) (raw items) full.closed full.each (raw_fits items has)))))

@@ -1,10 +1,9 @@
 -- The full types of a set: with the interfaces that are made of classes, ids, and closed lists.
 use Rattle.std.specs.Prelude.{◌≡◌, List, map, length}
-use Rattle.std.specs.List.{All, AllZip}
+use Rattle.std.specs.List.{AllZip}
 use Rattle.std.specs.List.Sorted.{IsPermutation}
 use Rattle.wr_base.specs.Declarations.{IsInOrder}
 use Rattle.wr_base.specs.Normal.{normal}
-use Rattle.wr_base.specs.Places.{part_count}
 use Rattle.wr_base.specs.declared.declaration.Declaration.{Declaration}
 use Rattle.wr_base.specs.declared.places.DeclPlaces.{DeclPlaces}
 use Rattle.wr_rules.specs.Sites.{Site, sites_of}
@@ -23,11 +22,3 @@ pub record IsFull (items : List PlacedItem) (types : List Declaration) (places :
   pub sites : IsPermutation (map in_order closed) (sites_of types places)
   pub size : length places ≡ length types
   pub order : IsInOrder types
-
--- a declaration has a place for each of its members, cases or fields
-abbrev pub HasPart : Site → Type 0
-HasPart s = length s.places.parts ≡ part_count s.decl
-
--- each of these types has
-abbrev pub HasParts : List Declaration → List DeclPlaces → Type 0
-HasParts types places = All HasPart (sites_of types places)

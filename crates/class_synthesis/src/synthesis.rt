@@ -4,9 +4,10 @@ ghost use Rattle.std.specs.Prelude.{◌≡◌, Some, IfOk, IfErr};
 ghost use Rattle.ranked.specs.Entries.{Entry};
 ghost use Rattle.ranked.specs.First.{IsFirst, Clear};
 ghost use Rattle.placed_items.specs.Items.{HasPlaces, NamesApart};
+ghost use Rattle.place_laws.specs.Shapes.{FitPlaces};
 ghost use Rattle.class_synthesis.specs.Answers.{RefusedFirst, OnlyMemory, Refuses};
 ghost use Rattle.class_synthesis.specs.Clashes.{IsClash};
-ghost use Rattle.class_synthesis.specs.Full.{HasParts, IsFull};
+ghost use Rattle.class_synthesis.specs.Full.{IsFull};
 
 use crate::clashes::clash;
 use crate::ordered::in_order;
@@ -39,7 +40,7 @@ pub fn full(alloc: Global, placed: &Placed) -> Result<PlacedTypes, Stop<Refusal>
     // The answer is the full types of the items, each with its places.
     ensures full { IfOk result (λ full. IsFull placed.now full.types full.places) }
     // Each part has a place, where each has one in the items.
-    ensures places { HasPlaces placed.now → IfOk result (λ full. HasParts full.types full.places) }
+    ensures places { HasPlaces placed.now → IfOk result (λ full. FitPlaces full.types full.places) }
     // Where there is an answer nothing clashes.
     ensures clear { IfOk result (λ _. Clear (IsClash placed.now)) }
     // Where nothing clashes that is answered, unless memory runs out.
