@@ -1,0 +1,9 @@
+pub mod OrderLaws
+pub mod TextLaws
+pub mod RefLaws
+pub mod NumberLaws
+pub mod DeclaredLaws
+pub mod DownLaws
+pub mod LookupLaws
+pub mod Results
+pub mod WholeLaws

@@ -1,0 +1,6 @@
+pub mod Numbers
+pub mod InstanceRows
+pub mod Texted
+pub mod Exact
+pub mod Orders
+pub mod Seen

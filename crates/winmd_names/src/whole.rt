@@ -1,0 +1,86 @@
+//! The names of a set, from its declarations.
+
+ghost use Rattle.std.specs.Prelude.{◌≡◌, ◌≤◌, IfOk, OnOk, length, map, not, string_bytes};
+ghost use Rattle.std.specs.List.{filter};
+ghost use Rattle.wr_base.specs.Declarations.{name_of};
+ghost use Rattle.wr_base.specs.Trees.{decl_tree, tree_of};
+ghost use Rattle.winmd_sets.specs.Rows as rows;
+ghost use Rattle.winmd_lines.specs.Names.{is_declared};
+ghost use Rattle.winmd_uses.specs.Takes.{all_names, instances_of};
+ghost use Rattle.winmd_names.specs.Orders.{Rises};
+ghost use Rattle.winmd_names.specs.Seen.{seen};
+
+use crate::declared::declared_names;
+use crate::instance_rows::{in_order, rows_of};
+use crate::makers::used_makers;
+use crate::numbers::{MOST_ROWS, numbers};
+use crate::references::references;
+use crate::set_names::{InstanceRows, SetNames, TypeNames};
+use ranked::Memory;
+use std::alloc::{AllocError, Global};
+use winmd_uses::{Maker, Used, uses_of};
+use wr_base::{FullName, TypeUse, Types};
+
+fn type_names(alloc: Global, types: &Types) -> Result<Vec<FullName>, Memory>
+    ensures { IfOk result (λ names. names.items ≡ map name_of types.now) }
+{
+    let mut names = Vec::new(alloc);
+    for i in 0..types.len() {
+        names.push(types.at(i).name().clone()?)?;
+    }
+    Ok(names)
+}
+
+fn named(alloc: Global, types: &Types, used: &Used) -> Result<TypeNames, Memory>
+    ensures types { IfOk result (λ names. names.types.items ≡ map name_of types.now) }
+    ensures refs { IfOk result (λ names. map string_bytes names.refs.items ≡ filter (λ full. not (is_declared (map name_of types.now) full)) (all_names used.now)) }
+    ensures ordered { OnOk result (Rises (all_names used.now)) }
+{
+    let declared = declared_names(alloc, types)?;
+    let refs = references(alloc, &declared, used.names())?;
+    Ok(TypeNames {
+        types: type_names(alloc, types)?,
+        refs,
+    })
+}
+
+fn instance_rows(alloc: Global, uses: &[TypeUse]) -> Result<InstanceRows, Memory>
+    ensures { IfOk result (λ instances. map tree_of instances.list.items ≡ rows.by_text (map tree_of uses.now)) }
+{
+    let list = in_order(alloc, uses)?;
+    if list.len() > MOST_ROWS {
+        return Err(AllocError);
+    }
+    let rows = rows_of(alloc, list.as_slice())?;
+    Ok(InstanceRows { list, rows })
+}
+
+fn with_numbers(
+    alloc: Global,
+    types: TypeNames,
+    instances: InstanceRows,
+    makers: Vec<Maker>,
+) -> Result<SetNames, Memory>
+    requires few { length makers.items ≤ 9 }
+    ensures { IfOk result (λ names. (names.types ≡ types) × (names.instances ≡ instances) × (names.makers ≡ makers)) }
+{
+    let tokens = numbers(alloc, types.types.as_slice(), types.refs.as_slice())?;
+    Ok(SetNames {
+        types,
+        instances,
+        makers,
+        tokens,
+        alloc,
+    })
+}
+
+/// The names of a set: its types as they stand, TypeRefs by full name, TypeSpecs by text, MemberRefs by TypeRef and signature; each that the rows of the set use, once. Err is want of memory, also past the rows that a table has.
+pub fn names_of(alloc: Global, types: &Types) -> Result<SetNames, Memory>
+    ensures { IfOk result (λ names. seen names ≡ rows.names_of (map decl_tree types.now)) }
+{
+    let used = uses_of(alloc, types)?;
+    let names = named(alloc, types, &used)?;
+    let instances = instance_rows(alloc, used.instances())?;
+    let makers = used_makers(alloc, &used)?;
+    with_numbers(alloc, names, instances, makers)
+}
