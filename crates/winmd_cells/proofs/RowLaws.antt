@@ -92,3 +92,23 @@ listed f lists count m long each = ⊎_elim (λ h. rw h.0 (each m (omega (arith,
 pub mapped_if : {A B : Type 0} (f : A → B) (b : Bool) (xs : List A) → map f (cond b xs []) ≡ cond b (map f xs) []
 mapped_if f true xs = refl
 mapped_if f false xs = refl
+
+pub counted_none : [] ≡ upto 1 0
+unfolding upto
+counted_none = refl
+
+pub counted_on : (i : ℕ) → upto 1 i ++ (i + 1) ∷ [] ≡ upto 1 (i + 1)
+counted_on i =
+    let e : i + 1 ≡ suc i = omega arith in
+    let f : 1 + i ≡ suc i = omega arith in
+    rw e (sym (upto_behind 1 i ∙ rw f refl))
+
+pub length_upto : (n m : ℕ) → length (upto n m) ≡ m
+unfolding upto
+length_upto n zero = refl
+length_upto n (suc m) = ap suc (length_upto (suc n) m)
+
+pub counted_whole : (numbers : List ℕ) (m : ℕ) → numbers ≡ upto 1 m → (length numbers ≡ m) × (numbers ≡ upto 1 (length numbers))
+counted_whole numbers m is =
+    let long : length numbers ≡ m = ap length is ∙ length_upto 1 m in
+    (long, is ∙ ap (upto 1) (sym long))

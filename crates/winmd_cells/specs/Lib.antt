@@ -1,3 +1,4 @@
 pub mod Given
 pub mod Seen
+pub mod Placed
 pub mod Indexed

@@ -9,16 +9,22 @@ use Rattle.winmd_cells.specs.declared.image.Image.{Image}
 use Rattle.winmd_cells.specs.declared.cells.Value.{Value}
 use Rattle.winmd_cells.specs.declared.cells.Value.TheVariants as values
 
--- where the cells of the tables' stream stand in the image
+-- where the cells of a tables' stream stand that begins at an offset
+abbrev pub offsets_of : ℕ → List ℕ → Offsets
+offsets_of start stream table row column = start + offset_of stream table row column
+
+-- the rows of a tables' stream at an offset, with their indices followed into the heaps
+abbrev pub tables_of : ℕ → List ℕ → Heaps → Tables
+tables_of start stream heaps = record { rows = followed heaps (offsets_of start stream) (raw stream); offset = offsets_of start stream }
+
 abbrev pub offsets_in : Image → Offsets
-offsets_in image table row column = image.at + offset_of image.stream.now table row column
+offsets_in image = offsets_of image.at image.stream.now
 
 abbrev pub heaps_in : Image → Heaps
 heaps_in image = record { texts = image.texts.now; blobs = image.blobs.now }
 
--- the rows of the tables' stream, with their indices followed into the heaps
 abbrev pub tables_in : Image → Tables
-tables_in image = record { rows = followed (heaps_in image) (offsets_in image) (raw image.stream.now); offset = offsets_in image }
+tables_in image = tables_of image.at image.stream.now (heaps_in image)
 
 -- a row by its number
 abbrev pub row_seen : Image → Table → ℕ → List Cell

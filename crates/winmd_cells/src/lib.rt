@@ -6,9 +6,13 @@ mod cells;
 mod image;
 mod indexes;
 mod lists;
+mod making;
 mod offsets;
 mod places;
+mod sizes;
+mod starts;
 
 pub use cells::Value;
 pub use image::{Image, Places};
 pub use indexes::index;
+pub use making::places_of;

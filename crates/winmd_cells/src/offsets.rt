@@ -17,7 +17,7 @@ fn entry(list: &[u64], i: usize) -> u64
 }
 
 /// How many bytes these columns have.
-fn total_width(sizes: &Sizes, columns: &[Column]) -> u64
+pub(crate) fn total_width(sizes: &Sizes, columns: &[Column]) -> u64
     requires { length columns.now ≤ 9 }
     ensures value { result ≡ total (map (width_of sizes.now) columns.now) }
     ensures small { result ≤ 36 }
