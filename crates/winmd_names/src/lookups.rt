@@ -53,8 +53,8 @@ impl SetNames {
         place_of(self.makers.as_slice(), maker) as u32 + 1
     }
 
-    // The row of the type of this full name.
-    fn named_row(&self, name: &str) -> (Table, u32)
+    /// The row of the type of this full name: of its TypeDef or its TypeRef.
+    pub fn named_row(&self, name: &str) -> (Table, u32)
         ensures { To result.0 result.1 ≡ names.named_row (seen self.now) name.now }
     {
         match decode(CodedIndex::TypeDefOrRef, self.tokens.number(name)) {

@@ -6,7 +6,10 @@ ghost use Rattle.wr_base.specs.Declarations.{name_of};
 ghost use Rattle.wr_base.specs.Trees.{decl_tree, tree_of};
 ghost use Rattle.winmd_sets.specs.Rows as rows;
 ghost use Rattle.winmd_lines.specs.Names.{is_declared};
-ghost use Rattle.winmd_uses.specs.Takes.{all_names, instances_of};
+ghost use Rattle.winmd_lines.specs.Makers.{all_makers};
+ghost use Rattle.winmd_uses.specs.Makers.{maker_of};
+ghost use Rattle.winmd_uses.specs.Takes.{all_names, has_maker, instances_of};
+ghost use Rattle.winmd_uses.specs.Uses.{IsUsed};
 ghost use Rattle.winmd_names.specs.Orders.{Rises};
 ghost use Rattle.winmd_names.specs.Seen.{seen};
 
@@ -74,13 +77,38 @@ fn with_numbers(
     })
 }
 
-/// The names of a set: its types as they stand, TypeRefs by full name, TypeSpecs by text, MemberRefs by TypeRef and signature; each that the rows of the set use, once. Err is want of memory, also past the rows that a table has.
+fn with_makers(
+    alloc: Global,
+    used: &Used,
+    types: TypeNames,
+    instances: InstanceRows,
+) -> Result<SetNames, Memory>
+    ensures { IfOk result (λ names. (names.types ≡ types) × (names.instances ≡ instances) × (map maker_of names.makers.items ≡ filter (has_maker used.now) all_makers)) }
+{
+    let makers = used_makers(alloc, used)?;
+    with_numbers(alloc, types, instances, makers)
+}
+
+fn with_instances(alloc: Global, used: &Used, types: TypeNames) -> Result<SetNames, Memory>
+    ensures { IfOk result (λ names. (names.types ≡ types) × (map tree_of names.instances.list.items ≡ rows.by_text (instances_of used.now)) × (map maker_of names.makers.items ≡ filter (has_maker used.now) all_makers)) }
+{
+    let instances = instance_rows(alloc, used.instances())?;
+    with_makers(alloc, used, types, instances)
+}
+
+fn names_for(alloc: Global, types: &Types, used: &Used) -> Result<SetNames, Memory>
+    requires { IsUsed (map decl_tree types.now) used.now }
+    ensures { IfOk result (λ names. seen names ≡ rows.names_of (map decl_tree types.now)) }
+{
+    let names = named(alloc, types, used)?;
+    with_instances(alloc, used, names)
+}
+
+/// The names of a set: its types as they stand, TypeRefs by full name, TypeSpecs by text, MemberRefs by TypeRef and signature; each that
+/// the rows of the set use, once. Err is want of memory, also past the rows that a table has.
 pub fn names_of(alloc: Global, types: &Types) -> Result<SetNames, Memory>
     ensures { IfOk result (λ names. seen names ≡ rows.names_of (map decl_tree types.now)) }
 {
     let used = uses_of(alloc, types)?;
-    let names = named(alloc, types, &used)?;
-    let instances = instance_rows(alloc, used.instances())?;
-    let makers = used_makers(alloc, &used)?;
-    with_numbers(alloc, names, instances, makers)
+    names_for(alloc, types, &used)
 }
