@@ -1,5 +1,5 @@
 -- Where no full name is broken, each stands at one item alone.
-use Rattle.std.proofs.Common.{◌≡◌, ℕ, zero, suc, ◌<◌, List, [], ◌∷◌, Option, Some, None, map, length, slice_get, ◌⊎◌, inl, inr, ⊎_elim, refl, sym, ap, subst, ◌∙◌, arith}
+use Rattle.std.proofs.Common.{◌≡◌, ℕ, zero, suc, ◌<◌, List, [], ◌∷◌, Option, Some, map, slice_get, ◌⊎◌, inl, inr, ⊎_elim, refl, sym, ap, ◌∙◌, arith}
 use Rattle.std.proofs.lemmas.Option.{none-some, same_Some, slice_get_within}
 use Rattle.ranked.specs.First.{Clear, Or, Below, At, Only}
 use Rattle.wr_base.specs.Lower.{lower}
@@ -7,7 +7,7 @@ use Rattle.placed_items.specs.declared.placed.PlacedItem.{PlacedItem}
 use Rattle.placed_items.specs.Items.{written_name, written_names, NamesApart}
 use Rattle.midl_names.specs.declared.sort.Sort.{Sort}
 use Rattle.midl_names.specs.Items.{Item, full_name}
-use Rattle.midl_names.specs.Duplicates.{lower_name, duplicate_entry}
+use Rattle.midl_names.specs.Duplicates.{duplicate_entry}
 use Rattle.midl_names.specs.Names.{Broken}
 use Rattle.midl_names.specs.Declares.{placed_of}
 use Rattle.midl_names.proofs.PathLaws.{own_path}

@@ -1,3 +1,4 @@
+pub mod AppliedLaws
 pub mod AbiNames
 pub mod CaseTurns
 pub mod Firsts

@@ -1,5 +1,5 @@
 -- The full names in what an item declares are paths.
-use Rattle.std.proofs.Common.{◌≡◌, ℕ, zero, suc, Bool, true, false, cond, IsTrue, List, [], ◌∷◌, ◌++◌, Option, Some, None, ◌⊎◌, inl, inr, ⊎_elim, map, length, take, get_or, refl, sym, ap, subst, ◌∙◌}
+use Rattle.std.proofs.Common.{◌≡◌, ℕ, zero, suc, Bool, true, false, cond, IsTrue, List, [], ◌∷◌, ◌++◌, Option, Some, None, ◌⊎◌, inl, inr, ⊎_elim, map, length, take, get_or, refl, sym, subst}
 use Rattle.std.specs.List.{All, flat_map}
 use Rattle.std.specs.Option.{option_or, option_map}
 use Rattle.std.proofs.lemmas.Option.{none-some, same_Some}
@@ -7,7 +7,6 @@ use Rattle.std.proofs.lemmas.List.Elements.{All-nil, All-cons, All-head, All-tai
 use Rattle.wr_base.specs.Paths.{is_path}
 use Rattle.wr_base.specs.Trees.{tree_of, uses_of}
 use Rattle.wr_base.proofs.TreeLaws.{tree_Plain, tree_Value, tree_Reference, tree_Inst}
-use Rattle.wr_base.specs.declared.type_use.Base.{Base}
 use Rattle.wr_base.specs.declared.type_use.Base.TheVariants.{Object}
 use Rattle.wr_base.specs.declared.type_use.TypeUse.{TypeUse}
 use Rattle.wr_base.specs.declared.declaration.Field.{Field}
@@ -16,9 +15,8 @@ use Rattle.wr_base.specs.declared.declaration.Signature.{Signature}
 use Rattle.wr_base.specs.declared.declaration.Member.{Member}
 use Rattle.wr_base.specs.declared.declaration.Member.TheVariants.{Method, Property, Event}
 use Rattle.midl_tree.specs.Trees.{TypeTree, base, named, TypeTrees, no_types, type_and, FieldsTree, ParamTree, MemberTree, method, event, properties, property, ClassMemberTree, member, constructor, DeclTree, enumeration, structure, delegate, interface, class}
-use Rattle.placed_items.specs.declared.placed.PlacedItem.{PlacedItem}
 use Rattle.placed_items.specs.Items.{written_name}
-use Rattle.placed_items.specs.Named.{HasPaths, HavePaths, result_uses, signature_uses, member_uses, class_uses, written_uses, IsPathed, ArePathed}
+use Rattle.placed_items.specs.Named.{HasPaths, HavePaths, result_uses, signature_uses, member_uses, written_uses, IsPathed, ArePathed}
 use Rattle.midl_names.specs.declared.sort.Sort.{Sort}
 use Rattle.midl_names.specs.declared.sort.Sort.TheVariants as sorts
 use Rattle.midl_names.specs.declared.hit.Hit.{Hit}
@@ -31,7 +29,7 @@ use Rattle.midl_names.specs.Declares.{members_on, members_in, constructors_of, w
 
 -- ---- what look-up finds
 
-one_of : {X : Type 0} (a b : Option X) (x : X) → option_or a b ≡ Some x → (a ≡ Some x) ⊎ (b ≡ Some x)
+pub one_of : {X : Type 0} (a b : Option X) (x : X) → option_or a b ≡ Some x → (a ≡ Some x) ⊎ (b ≡ Some x)
 one_of None b x e = inr e
 one_of (Some y) b x e = inl e
 
@@ -102,7 +100,7 @@ flat_each : {X Y : Type 0} (P : Y → Type 0) (f : X → List Y) → ((x : X) �
 flat_each P f h [] = All-nil P
 flat_each P f h (x ∷ xs) = All-append P (f x) (flat_map f xs) (h x) (flat_each P f h xs)
 
-flat_within : {X Y : Type 0} (P : Y → Type 0) (f : X → List Y) (xs : List X) → All (λ x. All P (f x)) xs → All P (flat_map f xs)
+pub flat_within : {X Y : Type 0} (P : Y → Type 0) (f : X → List Y) (xs : List X) → All (λ x. All P (f x)) xs → All P (flat_map f xs)
 flat_within P f [] h = All-nil P
 flat_within P f (x ∷ xs) h = All-append P (f x) (flat_map f xs) (All-head (λ y. All P (f y)) x xs h) (flat_within P f xs (All-tail (λ y. All P (f y)) x xs h))
 

@@ -1,12 +1,10 @@
 -- Each part of an item has a place.
-use Rattle.std.proofs.Common.{◌≡◌, ◌+◌, ℕ, ℤ, pos, ◌+ℤ◌, true, false, List, [], ◌∷◌, ◌++◌, Option, Some, None, map, length, get_or, refl, sym, ap, ◌∙◌, arith}
+use Rattle.std.proofs.Common.{◌≡◌, ◌+◌, ℕ, ℤ, pos, ◌+ℤ◌, true, false, List, [], ◌∷◌, ◌++◌, Option, map, length, get_or, refl, sym, ◌∙◌, arith}
 use Rattle.std.specs.List.{flat_map}
 use Rattle.std.proofs.lemmas.List.{length-map, length-append}
 use Rattle.std.proofs.lemmas.List.Elements.{All-map}
-use Rattle.wr_base.specs.declared.declaration.Field.{Field}
 use Rattle.wr_base.specs.declared.declaration.Member.{Member}
 use Rattle.wr_base.specs.declared.declaration.Member.TheVariants.{Property}
-use Rattle.midl_tree.specs.declared.terminal.Terminal.{Terminal}
 use Rattle.midl_tree.specs.declared.nodes.CaseNode.{CaseNode}
 use Rattle.midl_tree.specs.Trees.{FieldsTree, MemberTree, method, event, properties, property, ClassMemberTree, member, constructor, DeclTree, enumeration, structure, delegate, interface, class}
 use Rattle.placed_items.specs.declared.placed.PlacedItem.{PlacedItem}

@@ -1,6 +1,5 @@
 -- From what a pass over the items finds to the answer.
 use Rattle.std.proofs.Common.{◌≡◌, ℕ, List, Option, Some, None, Result, Ok, Err, IfOk, IfErr, IsTrue, get_or, map, ap, sym, subst, ◌∙◌}
-use Rattle.std.specs.List.{All}
 use Rattle.std.proofs.lemmas.List.Elements.{All-map}
 use Rattle.std.proofs.lemmas.Option.{none-some, same_Some}
 use Rattle.ranked.specs.Entries.{Entry}
@@ -18,6 +17,8 @@ use Rattle.midl_names.specs.Answers.{BrokenFirst, RefusedFirst, Resolves, Refuse
 use Rattle.midl_names.specs.Views.{item_of}
 use Rattle.midl_names.specs.declared.scoped.Scoped.{Scoped}
 use Rattle.wr_base.specs.Paths.{is_path}
+use Rattle.placed_items.specs.Applied.{AreApplied}
+use Rattle.midl_names.proofs.AppliedLaws.{uses_applied}
 use Rattle.placed_items.specs.Items.{HasPlaces, NamesApart}
 use Rattle.placed_items.specs.Named.{ArePathed}
 use Rattle.midl_names.proofs.PlaceCounts.{places_fit}
@@ -62,6 +63,11 @@ module _ (sources : List Source) (items : List Item) (is : items ≡ items_of so
   unfolding IsFirst Clear
   apart_of (Ok placed) h e = subst NamesApart (sym e) (names_apart (declared_sort items) items h)
   apart_of (Err stop) h e = tt
+
+  pub applied_of : (r : Result (List PlacedItem) (Stop Entry)) → IfOk r (λ _. IsFirst (Broken items) None) → IfOk r (λ placed. placed ≡ declares items) → IfOk r AreApplied
+  unfolding IsFirst Clear
+  applied_of (Ok placed) h e = subst AreApplied (sym e) (uses_applied items h)
+  applied_of (Err stop) h e = tt
 
   pub only_of : (r : Result (List PlacedItem) (Stop Entry)) → IfOk r (λ placed. placed ≡ declares items) → IfErr r (BrokenFirst items) → Clear (Names sources) → Resolves (Declares sources) r
   only_of (Ok placed) h f clear = h ∙ ap declares is

@@ -29,7 +29,7 @@ module _ (items : List Item) where
       (swap items _ _ e (λ i us. split (uses_of i.tree) (λ u. Gives (unknown_use (declared_sort items) i u)) (λ u. Gives (wrong_use (declared_sort items) i u)) e
       (swap (uses_of i.tree) _ _ e (λ u g. split_use (declared_sort items) i u e g) us)) h)
 
-  to : (e : Entry) → ByItem (declared_sort items) items e → Broken items e
+  pub to : (e : Entry) → ByItem (declared_sort items) items e → Broken items e
   unfolding Or Below At
   to e h =
       ⊎_elim (λ r. inr (inr (inr (inl (inl r)))))

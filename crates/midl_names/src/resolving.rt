@@ -9,6 +9,7 @@ ghost use Rattle.midl_names.specs.Declares.{declares, Declares};
 ghost use Rattle.midl_names.specs.Lookup.{declared_sort};
 ghost use Rattle.midl_names.specs.Names.{Broken, Names};
 ghost use Rattle.midl_names.specs.Views.{item_of, sources_of};
+ghost use Rattle.placed_items.specs.Applied.{AreApplied};
 ghost use Rattle.placed_items.specs.Items.{HasPlaces, NamesApart};
 ghost use Rattle.placed_items.specs.Named.{AreNamed, ArePathed};
 
@@ -51,6 +52,8 @@ pub fn resolve(alloc: Global, files: &[File]) -> Result<Placed, Stop<Refusal>>
     ensures named { IfOk result AreNamed }
     // Full names are identifiers joined by dots, those of items and those in their uses.
     ensures pathed { IfOk result ArePathed }
+    // Each instance of a template has an argument.
+    ensures applied { IfOk result AreApplied }
     // Where nothing is broken that is answered, unless memory runs out.
     ensures only { Clear (Names (sources_of files.now)) → Resolves (Declares (sources_of files.now)) result }
     // A refusal is the first entry that is broken.

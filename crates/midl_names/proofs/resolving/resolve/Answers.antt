@@ -1,6 +1,6 @@
 use Rattle.std.proofs.Common.{ap, ◌∙◌, map}
 use Rattle.midl_names.specs.Views.{item_of, sources_of}
-use Rattle.midl_names.proofs.Resolutions.{clear_of, declares_of, places_of, apart_of, only_of, refused_of, first_of}
+use Rattle.midl_names.proofs.Resolutions.{clear_of, declares_of, places_of, apart_of, applied_of, only_of, refused_of, first_of}
 use Rattle.midl_names.proofs.resolving.resolve.Goals as goal
 
 pub returns-clause-clear : goal.returns-clause-clear
@@ -37,3 +37,8 @@ pub returns-clause-first : goal.returns-clause-first
 returns-clause-first c =
     first_of (sources_of c.args.files.now) (map item_of c.deref-2.result.now) (ap (map item_of) c.deref-2.ensures.value ∙ c.in_ok-items.ensures) c.answer_of.result
     c.answer_of.ensures.clear c.answer_of.ensures.refused
+
+pub returns-clause-applied : goal.returns-clause-applied
+returns-clause-applied c =
+    applied_of (sources_of c.args.files.now) (map item_of c.deref-2.result.now) (ap (map item_of) c.deref-2.ensures.value ∙ c.in_ok-items.ensures) c.answer_of.result
+    c.answer_of.ensures.clear c.answer_of.ensures.value
