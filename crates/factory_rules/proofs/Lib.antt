@@ -1,0 +1,2 @@
+mod ArityLaws
+mod SiteLaws
