@@ -1,0 +1,6 @@
+//! The six limits of a set.
+#![tactic(auto)]
+
+mod first;
+
+pub use first::first_limit;
