@@ -2,3 +2,4 @@ pub mod Given
 pub mod Seen
 pub mod Placed
 pub mod Indexed
+pub mod Names
