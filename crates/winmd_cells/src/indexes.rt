@@ -89,3 +89,13 @@ pub fn index(
     }
     Ok(lists)
 }
+
+/// The rows that belong to the row of a number, by an index.
+pub fn owned(index: &[Vec<u32>], n: u32) -> &[u32]
+    ensures { result.now ≡ get_or (cells_in index.now) n [] }
+{
+    match index.get(n as usize) {
+        Some(rows) => rows.as_slice(),
+        None => &[],
+    }
+}

@@ -15,6 +15,6 @@ mod starts;
 
 pub use cells::Value;
 pub use image::{Image, Places};
-pub use indexes::index;
+pub use indexes::{index, owned};
 pub use making::places_of;
 pub use names::{TypeName, identifier_of, path_of};
