@@ -1,7 +1,9 @@
-//! Prints what the front half of the toolchain answers to each line of the standard input: tokens, trees and names. `docs/CONTRIBUTING.md` says how a case is
+//! Prints what the front half of the toolchain answers to each line of the standard input: tokens, trees, names and full types. `docs/CONTRIBUTING.md` says how a case is
 //! spelled.
 #![tactic(auto)]
 
+mod full;
+mod full_text;
 mod lexing;
 mod names;
 mod said;
@@ -20,6 +22,7 @@ fn answer_of(out: &mut String, command: &str, case: &str) -> Result<(), AllocErr
         "ends" => trees::ends(out, case),
         "ids" => trees::ids(out, case),
         "names" => names::names(out, case),
+        "full" => full::full_types(out, case),
         _ => out.push_str("no such command"),
     }
 }

@@ -1,5 +1,8 @@
 //! `names SOURCE|SOURCE ..` prints what files declare, or the first fault of their names.
 
+ghost use Rattle.std.specs.Prelude.{IfOk};
+ghost use Rattle.placed_items.specs.Items.{NamesApart};
+
 use crate::lexing::{push_stop, tokens_of};
 use crate::set_text::placed_text;
 use case_text::bytes_of;
@@ -10,7 +13,8 @@ use placed_items::Placed;
 use std::alloc::{AllocError, Global};
 use wr_base::{Refusal, Stop};
 
-type Answer<T> = Result<T, Stop<Refusal>>;
+/// An answer, or what refuses it.
+pub type Answer<T> = Result<T, Stop<Refusal>>;
 
 fn file_of(alloc: Global, number: u32, text: &str) -> Answer<File> {
     let bytes = bytes_of(alloc, text)?;
@@ -26,7 +30,10 @@ fn push_files(files: &mut Vec<File>, alloc: Global, case: &str) -> Answer<()> {
     Ok(())
 }
 
-fn declared_by(alloc: Global, case: &str) -> Answer<Placed> {
+/// What files declare.
+pub fn declared_by(alloc: Global, case: &str) -> Answer<Placed>
+    ensures apart { IfOk result NamesApart }
+{
     let mut files = Vec::new(alloc);
     if !case.is_empty() {
         push_files(&mut files, alloc, case)?;
