@@ -1,0 +1,3 @@
+pub mod Counting
+pub mod Paired
+pub mod Turned
