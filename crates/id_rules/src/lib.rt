@@ -1,7 +1,9 @@
-//! The ids of the instances that a set uses, by text.
+//! The ids of the instances that a set uses, by text, and the ids that are reserved.
 #![tactic(auto)]
 
 mod instances;
+mod reserved;
 mod table;
 
 pub use instances::instance_ids;
+pub use reserved::reserved_owners;
