@@ -1,5 +1,4 @@
-use Rattle.std.proofs.Common.{◌≡◌, ◌∙◌, ap, List, map}
-use Rattle.std.specs.Prelude.{Vec}
+use Rattle.std.proofs.Common.{◌∙◌, ap, List, map}
 use Rattle.winmd_lines.specs.Orders.{sort_by}
 use Rattle.wr_base.specs.Trees.{tree_of}
 use Rattle.wr_base.specs.declared.type_use.TypeUse.{TypeUse}
