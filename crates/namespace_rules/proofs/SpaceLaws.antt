@@ -1,0 +1,137 @@
+-- Texts that begin a name.
+use Rattle.std.proofs.Common.{◌≡◌, ◌⊎◌, ⊎_elim, inl, inr, ◌<◌, ◌+◌, ℕ, suc, Bool, true, false, ◌||◌, ◌&&◌, ◌==◌, cond, codes, List, [], ◌∷◌, ◌++◌, length, map, take, drop, get_or, slice_get, Some, Result, Ok, Err, OnOk, refl, sym, ap, subst, ◌∙◌, arith, lit<}
+use Rattle.std.specs.List.{list_any}
+use Rattle.std.specs.Str.{NoCharPasses, bytes_eq}
+use Rattle.std.specs.Str.Pattern.{RFindsChar, SplitsAroundMatch, HasCharAt}
+use Rattle.std.proofs.lemmas.Bool.Decides.{eqb_tells}
+use Rattle.std.proofs.lemmas.List.{take-append-drop, take_more, take_all, map-append, length-append}
+use Rattle.std.proofs.lemmas.List.Folds.{list_any-append}
+use Rattle.std.proofs.lemmas.Option.{slice_get_within}
+use Rattle.std.proofs.lemmas.Str.Pattern.{NoCharPasses-char, drop_at_char}
+use Rattle.wr_base.specs.Lower.{lower}
+use Rattle.wr_base.specs.Parts.{has}
+use Rattle.wr_base.proofs.PartLaws.{none_has}
+use Rattle.found_table.specs.Table.{table, foundation, name_of as found_name}
+use Rattle.wr_rules.specs.Sites.{Site, site_name}
+use Rattle.wr_rules.specs.NameRules.{begins, all_names}
+use Rattle.place_order.proofs.StandLaws.{get_there}
+
+pub on_ok_then : {X E : Type 0} (r : Result X E) (P Q : Type 0) → (P → Q) → OnOk r P → OnOk r Q
+on_ok_then (Ok x) P Q f h = f h
+on_ok_then (Err e) P Q f h = h
+
+pub cond_or : (b x : Bool) → cond b true x ≡ (x || b)
+cond_or true true = refl
+cond_or true false = refl
+cond_or false true = refl
+cond_or false false = refl
+
+none_of_or : (a b : Bool) → (a || b) ≡ false → (a ≡ false) × (b ≡ false)
+none_of_or true b h = absurd cc
+none_of_or false b h = (refl, h)
+
+and_false : (a : Bool) → (a && false) ≡ false
+and_false true = refl
+and_false false = refl
+
+or_false : (a : Bool) → (a || false) ≡ a
+or_false true = refl
+or_false false = refl
+
+or_assoc : (a b c : Bool) → ((a || b) || c) ≡ (a || (b || c))
+or_assoc true b c = refl
+or_assoc false b c = refl
+
+spread : (a b c : Bool) → (a && (b || c)) ≡ ((a && b) || (a && c))
+spread true b c = refl
+spread false b c = refl
+
+flip : (a b : ℕ) → (a == b) ≡ (b == a)
+flip a b = ⊎_elim
+    (λ t. ⊎_elim (λ u. t.0 ∙ sym u.0) (λ u. absurd (u.1 (sym t.1))) (eqb_tells b a))
+    (λ t. ⊎_elim (λ u. absurd (t.1 (sym u.1))) (λ u. t.0 ∙ sym u.0) (eqb_tells b a)) (eqb_tells a b)
+
+-- ---- at the last dot
+
+begins_none : (bs q : List ℕ) → has 46 bs ≡ false → begins q bs ≡ false
+begins_none [] [] h = refl
+begins_none [] (a ∷ as_) h = refl
+begins_none (b ∷ bs) [] h = (none_of_or (b == 46) (has 46 bs) h).0
+begins_none (b ∷ bs) (a ∷ as_) h = ap (λ t. (a == b) && t) (begins_none bs as_ (none_of_or (b == 46) (has 46 bs) h).1) ∙ and_false (a == b)
+
+pub begins_cut : (front back q : List ℕ) → has 46 back ≡ false → begins q (front ++ 46 ∷ back) ≡ (bytes_eq front q || begins q front)
+begins_cut [] back [] h = refl
+begins_cut [] back (a ∷ as_) h = ap (λ t. (a == 46) && t) (begins_none back as_ h) ∙ and_false (a == 46)
+begins_cut (f ∷ fs) back [] h = refl
+begins_cut (f ∷ fs) back (a ∷ as_) h =
+    ap (λ t. (a == f) && t) (begins_cut fs back as_ h) ∙ spread (a == f) (bytes_eq fs as_) (begins as_ fs)
+    ∙ ap (λ t. (t && bytes_eq fs as_) || ((a == f) && begins as_ fs)) (flip a f)
+
+none_passes : (bs : List ℕ) → NoCharPasses (λ d. d == 46) bs → has 46 bs ≡ false
+none_passes bs none = none_has 46 bs (λ i l. NoCharPasses-char 46 bs i none (lit< tt) l)
+
+parts : (bs : List ℕ) (i j : ℕ) → HasCharAt 46 bs i j → bs ≡ take i bs ++ 46 ∷ drop j bs
+parts bs i j at = sym (take-append-drop i bs) ∙ ap (λ t. take i bs ++ t) (drop_at_char 46 bs i j at (lit< tt))
+
+begins_split : (rest front back q : List ℕ) → SplitsAroundMatch (RFindsChar 46) rest front back → begins q rest ≡ (bytes_eq front q || begins q front)
+begins_split rest front back q (i, j, (none, at), f, b, le, x, y) =
+    ap (begins q) (parts rest i j at) ∙ begins_cut (take i rest) (drop j rest) q (none_passes (drop j rest) none) ∙ ap (λ t. bytes_eq t q || begins q t) (sym f)
+
+pub cut_shorter : (rest front back : List ℕ) → SplitsAroundMatch (RFindsChar 46) rest front back → length front < length rest
+cut_shorter rest front back (i, j, (none, at), f, b, le, x, y) =
+    let a = ap length (parts rest i j at) in let m = length-append (take i rest) (46 ∷ drop j rest) in let n = ap length f in
+    omega (arith, a, m, n)
+
+pub spaces_more : (rest front back : List ℕ) (old new whole : List ℕ → Bool) → SplitsAroundMatch (RFindsChar 46) rest front back → ((q : List ℕ) → (old q || begins q rest) ≡ whole q) → ((q : List ℕ) → new q ≡ (old q || bytes_eq front q))
+    → (q : List ℕ) → (new q || begins q front) ≡ whole q
+spaces_more rest front back old new whole cut before adds q =
+    ap (λ t. t || begins q front) (adds q) ∙ or_assoc (old q) (bytes_eq front q) (begins q front) ∙ ap (λ t. old q || t) (sym (begins_split rest front back q cut)) ∙ before q
+
+pub spaces_end : (rest : List ℕ) (set whole : List ℕ → Bool) → NoCharPasses (λ d. d == 46) rest → ((q : List ℕ) → (set q || begins q rest) ≡ whole q) → (q : List ℕ) → set q ≡ whole q
+spaces_end rest set whole none before q = sym (or_false (set q)) ∙ ap (λ t. set q || t) (sym (begins_none rest q (none_passes rest none))) ∙ before q
+
+-- ---- found types
+
+foundation_begins : (q name : List ℕ) → has 46 (lower name) ≡ false → begins q (lower (foundation name)) ≡ begins q (codes "windows.foundation.")
+foundation_begins q name h = begins_cut (codes "windows.foundation") (lower name) q h ∙ sym (begins_cut (codes "windows.foundation") [] q refl)
+
+or_same : (a b c : Bool) → a ≡ c → b ≡ c → (a || b) ≡ c
+or_same true b c h g = h
+or_same false b c h g = g
+
+found_begins : (q : List ℕ) → list_any (λ n. begins q (lower n)) (map found_name table) ≡ begins q (codes "windows.foundation.")
+found_begins q =
+    one (codes "EventRegistrationToken") refl _ (one (codes "DateTime") refl _ (one (codes "TimeSpan") refl _ (one (codes "IClosable") refl _ (one (codes "IStringable") refl _ (one (codes "IReference") refl _
+    (one (codes "EventHandler") refl _ (or_false _ ∙ foundation_begins q (codes "TypedEventHandler") refl)))))))
+  where
+    one : (name : List ℕ) → has 46 (lower name) ≡ false → (b : Bool) → b ≡ begins q (codes "windows.foundation.") → (begins q (lower (foundation name)) || b) ≡ begins q (codes "windows.foundation.")
+    one name h b e = or_same _ b _ (foundation_begins q name h) e
+
+-- ---- declared types
+
+-- the namespaces of found types and of the first declared ones
+abbrev pub SpacesTo : List Site → ℕ → (List ℕ → Bool) → Type 0
+SpacesTo sites i set = (q : List ℕ) → set q ≡ (list_any (λ n. begins q (lower n)) (map site_name (take i sites)) || begins q (codes "windows.foundation."))
+
+turned : (a f b : Bool) → ((a || f) || b) ≡ ((a || (b || false)) || f)
+turned true f b = refl
+turned false true true = refl
+turned false true false = refl
+turned false false true = refl
+turned false false false = refl
+
+pub sites_more : (sites : List Site) (i : ℕ) (s : Site) (name : List ℕ) (old new : List ℕ → Bool) → slice_get sites i ≡ Some s → name ≡ site_name s → SpacesTo sites i old → ((q : List ℕ) → new q ≡ (old q || begins q (lower name))) → SpacesTo sites (i + 1) new
+sites_more sites i s name old new at is before adds q =
+    adds q ∙ ap (λ t. t || begins q (lower name)) (before q)
+    ∙ turned (list_any (λ n. begins q (lower n)) (map site_name (take i sites))) (begins q (codes "windows.foundation.")) (begins q (lower name))
+    ∙ ap (λ t. t || begins q (codes "windows.foundation."))
+    (sym (list_any-append (λ n. begins q (lower n)) (map site_name (take i sites)) (name ∷ []))
+    ∙ ap (λ z. list_any (λ n. begins q (lower n)) (map site_name (take i sites) ++ z ∷ [])) is
+    ∙ ap (list_any (λ n. begins q (lower n)))
+    (sym (map-append site_name (take i sites) (s ∷ [])) ∙ ap (λ (z : Site). map site_name (take i sites ++ z ∷ [])) (sym (get_there sites i s s at)) ∙ ap (map site_name) (sym (take_more sites i s (slice_get_within sites i s at)))))
+
+pub sites_end : (sites : List Site) (i : ℕ) (set : List ℕ → Bool) → i ≡ length sites → SpacesTo sites i set → (q : List ℕ) → set q ≡ list_any (λ n. begins q (lower n)) (all_names sites)
+sites_end sites i set l before q =
+    before q ∙ ap (λ (t : List Site). list_any (λ n. begins q (lower n)) (map site_name t) || begins q (codes "windows.foundation.")) (take_all i sites (omega (arith, l)))
+    ∙ ap (λ t. list_any (λ n. begins q (lower n)) (map site_name sites) || t) (sym (found_begins q))
+    ∙ sym (list_any-append (λ n. begins q (lower n)) (map site_name sites) (map found_name table))
