@@ -1,5 +1,5 @@
 -- Texts that begin a name.
-use Rattle.std.proofs.Common.{◌≡◌, ◌⊎◌, ⊎_elim, inl, inr, ◌<◌, ◌+◌, ℕ, suc, Bool, true, false, ◌||◌, ◌&&◌, ◌==◌, cond, codes, List, [], ◌∷◌, ◌++◌, length, map, take, drop, get_or, slice_get, Some, Result, Ok, Err, OnOk, refl, sym, ap, subst, ◌∙◌, arith, lit<}
+use Rattle.std.proofs.Common.{◌≡◌, ⊎_elim, ◌<◌, ◌+◌, ℕ, Bool, true, false, ◌||◌, ◌&&◌, ◌==◌, cond, codes, List, [], ◌∷◌, ◌++◌, length, map, take, drop, slice_get, Some, Result, Ok, Err, OnOk, refl, sym, ap, ◌∙◌, arith, lit<}
 use Rattle.std.specs.List.{list_any}
 use Rattle.std.specs.Str.{NoCharPasses, bytes_eq}
 use Rattle.std.specs.Str.Pattern.{RFindsChar, SplitsAroundMatch, HasCharAt}

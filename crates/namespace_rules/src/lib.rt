@@ -1,8 +1,9 @@
-//! The names of the namespaces that hold a declared or found type, in lower case.
+//! The rule on the names of types that are taken: by a namespace, by a found type or by an earlier type, but for ASCII case.
 //!
-//! `spaces_of` answers them as a set, which has a name's lower case exactly where a namespace of that name, but for ASCII case, holds a type.
+//! `first_namespace_clash` answers the first entry that breaks it in a set with places.
 #![tactic(auto)]
 
+mod pass;
 mod spaces;
 
-pub use spaces::spaces_of;
+pub use pass::first_namespace_clash;

@@ -25,8 +25,12 @@ fn put(set: &mut BTreeSet<String>, text: String) -> Result<(), AllocError>
     }
 }
 
-// A text more in the set.
-fn add_text(alloc: Global, set: &mut BTreeSet<String>, text: &str) -> Result<(), AllocError>
+/// A text more in the set.
+pub(crate) fn add_text(
+    alloc: Global,
+    set: &mut BTreeSet<String>,
+    text: &str,
+) -> Result<(), AllocError>
     ensures { OnOk result (AddsText text.now set.old set.new) }
 {
     let text = String::from_str(alloc, text)?;
@@ -68,7 +72,7 @@ fn site_count(types: &PlacedTypes) -> u32
 }
 
 /// The namespaces of all declared and found types.
-pub fn spaces_of(alloc: Global, types: &PlacedTypes) -> Result<BTreeSet<String>, AllocError>
+pub(crate) fn spaces_of(alloc: Global, types: &PlacedTypes) -> Result<BTreeSet<String>, AllocError>
     ensures { IfOk result (λ set. HasSpaces (all_names (sites_of types.now.types types.now.places)) set) }
 {
     let mut set = BTreeSet::new(alloc);

@@ -1,4 +1,4 @@
-use Rattle.std.proofs.Common.{ap, ◌∙◌, arith}
+use Rattle.std.proofs.Common.{◌∙◌, arith}
 use Rattle.std.specs.BTreeSet.{contains_text}
 use Rattle.wr_rules.specs.Sites.{sites_of}
 use Rattle.placed_sites.specs.Views.{site_view}
