@@ -8,4 +8,6 @@ mod overload_kind;
 mod tally;
 
 pub use member_case::MemberCase;
+pub use names::Lower;
 pub use overload_kind::OverloadKind;
+pub use tally::{Counted, count_in, tally_of};

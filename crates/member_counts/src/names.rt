@@ -23,7 +23,8 @@ impl Counted for Exact {
 }
 
 /// Each member by its name in lower case.
-pub(crate) struct Lower;
+#[derive(Clone, Copy, Debug)]
+pub struct Lower;
 
 impl Counted for Lower {
     ghost use Rattle.std.specs.Str.{bytes_eq};

@@ -11,18 +11,20 @@ use std::collections::BTreeMap;
 use wr_base::Member;
 
 /// Which name of a member is counted, where one is.
-pub(crate) trait Counted {
+pub trait Counted {
     ghost use Rattle.std.specs.Prelude.{ℕ, List, Bool};
     ghost use Rattle.wr_rules.specs.Members.{Standing as StandingPart};
     ghost use Rattle.wr_base.specs.declared.declaration.Member.{Member as MemberData};
 
     ghost has: { Self → StandingPart MemberData → List ℕ → Bool };
 
+    /// The text by which the member is counted.
     fn name(&self, alloc: Global, member: &Standing<Member>) -> Result<Option<String>, AllocError>
         ensures { IfOk result (λ r. (text : List ℕ) → has self.now member.now text ≡ has_text r text) };
 }
 
-pub(crate) fn count_in(tally: &BTreeMap<String, usize>, text: &str) -> usize
+/// How often the text is counted; 0 where it isn't.
+pub fn count_in(tally: &BTreeMap<String, usize>, text: &str) -> usize
     ensures { result ≡ count_at tally.now text.now }
 {
     match tally.get(text) {
@@ -56,7 +58,7 @@ fn count_one(tally: &mut BTreeMap<String, usize>, name: Option<String>) -> Resul
 }
 
 /// How many members have each name.
-pub(crate) fn tally_of<C: Counted>(
+pub fn tally_of<C: Counted>(
     alloc: Global,
     counted: &C,
     members: &[Standing<Member>],

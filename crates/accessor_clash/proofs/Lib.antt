@@ -1,0 +1,2 @@
+pub mod AbiTallies
+mod Pieces
