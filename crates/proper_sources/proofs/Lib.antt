@@ -1,0 +1,5 @@
+pub mod Walks
+pub mod Uses
+pub mod Good
+pub mod Proper
+pub mod Reading
