@@ -51,7 +51,12 @@ fn copied(alloc: Global, uses: &[TypeUse]) -> Result<Uses, AllocError>
     Ok(copied)
 }
 
-fn instance_of(alloc: Global, name: &FullName, arguments: &[TypeUse]) -> Result<TypeUse, AllocError>
+/// An instance as a use of its own, with the name and the arguments copied.
+pub fn instance_of(
+    alloc: Global,
+    name: &FullName,
+    arguments: &[TypeUse],
+) -> Result<TypeUse, AllocError>
     ensures { IfOk result (λ ty. tree_of ty ≡ instance name.now (uses_of (map tree_of arguments.now))) }
 {
     let name = name.clone()?;

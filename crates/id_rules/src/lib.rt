@@ -5,5 +5,5 @@ mod instances;
 mod reserved;
 mod table;
 
-pub use instances::instance_ids;
+pub use instances::{instance_ids, instance_of};
 pub use reserved::reserved_owners;

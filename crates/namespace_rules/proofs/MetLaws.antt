@@ -157,7 +157,7 @@ module _ (sites : List Site) (stands : List Stand) where
     place_here : x.place ≡ s.places.at
     place_here = let r = site_of_stand sites stands o i x there in r.2 ∙ ap (λ (z : Site). z.places.at) (same_Some r.0 s (sym r.1 ∙ at))
 
-    before_here : (j : ℕ) (y : Stand) → j < i → slice_get stands j ≡ Some y → (t : Site) × (slice_get sites y.number ≡ Some t) × StandsBefore sites y.number x.number
+    pub before_here : (j : ℕ) (y : Stand) → j < i → slice_get stands j ≡ Some y → (t : Site) × (slice_get sites y.number ≡ Some t) × StandsBefore sites y.number x.number
     before_here j y l e =
         let r = site_of_stand sites stands o j y e in
         let w = lower_first sites stands o j i x l (slice_get_within stands i x there) in
@@ -167,7 +167,7 @@ module _ (sites : List Site) (stands : List Stand) where
     side : (m n : ℕ) → (m < n) ⊎ (n ≤ m)
     side m n = grind arith
 
-    here_before : (j : ℕ) (t : Site) → slice_get sites j ≡ Some t → StandsBefore sites j x.number → (p : ℕ) × (y : Stand) × (p < i) × (slice_get stands p ≡ Some y) × (y.number ≡ j)
+    pub here_before : (j : ℕ) (t : Site) → slice_get sites j ≡ Some t → StandsBefore sites j x.number → (p : ℕ) × (y : Stand) × (p < i) × (slice_get stands p ≡ Some y) × (y.number ≡ j)
     here_before j t e b =
         let f = stand_of_site sites stands o j t e in
         ⊎_elim (λ l. (f.0, f.1, l, f.2, f.3)) (λ l. absurd (not_late f.0 f.1 l f.2 f.3)) (side f.0 i)

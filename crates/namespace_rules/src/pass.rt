@@ -27,8 +27,8 @@ fn stand_at(stands: &[Stand], i: usize) -> Stand
     stands[i]
 }
 
-// The declaration that stands there.
-fn site_of<'a>(types: &'a PlacedTypes, stands: &[Stand], i: usize) -> Site<'a>
+/// The declaration that stands at this place of the order.
+pub fn site_of<'a>(types: &'a PlacedTypes, stands: &[Stand], i: usize) -> Site<'a>
     requires order { IsPlaceOrder (sites_of types.now.types types.now.places) stands.now }
     requires within { i < length stands.now }
     ensures { IsStep (sites_of types.now.types types.now.places) stands.now i (site_view result) }

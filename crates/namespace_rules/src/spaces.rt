@@ -26,11 +26,7 @@ fn put(set: &mut BTreeSet<String>, text: String) -> Result<(), AllocError>
 }
 
 /// A text more in the set.
-pub(crate) fn add_text(
-    alloc: Global,
-    set: &mut BTreeSet<String>,
-    text: &str,
-) -> Result<(), AllocError>
+pub fn add_text(alloc: Global, set: &mut BTreeSet<String>, text: &str) -> Result<(), AllocError>
     ensures { OnOk result (AddsText text.now set.old set.new) }
 {
     let text = String::from_str(alloc, text)?;
