@@ -31,7 +31,7 @@ use Rattle.place_order.proofs.StandLaws.{get_there}
 use Rattle.place_order.proofs.SumLaws.{stands_lower}
 use Rattle.place_order.proofs.EarlierLaws.{lower_first, none_lower, site_of_stand, stand_of_site}
 use Rattle.flagged_sites.proofs.FlagLaws.{if_told, tell_if}
-use Rattle.namespace_rules.specs.Spaces.{AddsText, HasSpaces, is_told}
+use Rattle.namespace_rules.specs.Spaces.{holds_in, AddsText, HasSpaces, is_told}
 use Rattle.namespace_rules.specs.Pass.{has_name, is_named, HasMet, ClashAt}
 
 -- ---- the order of stands
@@ -194,14 +194,14 @@ module _ (sites : List Site) (stands : List Stand) where
           let t = before_here r.0 r.1 r.2 r.3 in
           inr (inr (record { j = r.1.number; other = t.0; at = t.1; before = t.2; same = sym (ap (has_name (lower (site_name s))) t.1) ∙ r.4 })))
           (or_cases (is_found (site_name s)) (contains_text met (lower (site_name s))) b))
-          (or_cases (contains_text spaces (lower (site_name s))) (is_found (site_name s) || contains_text met (lower (site_name s))) h)
+          (or_cases (holds_in spaces (lower (site_name s))) (is_found (site_name s) || contains_text met (lower (site_name s))) h)
 
       told_to : NamesClash sites x.number (site_name s) → is_told spaces met (site_name s) ≡ true
-      told_to (inl h) = left_or (contains_text spaces (lower (site_name s))) _ (has_spaces (lower (site_name s)) ∙ h)
-      told_to (inr (inl h)) = right_or (contains_text spaces (lower (site_name s))) _ (left_or (is_found (site_name s)) (contains_text met (lower (site_name s))) (found_is (site_name s) ∙ h))
+      told_to (inl h) = left_or (holds_in spaces (lower (site_name s))) _ (has_spaces (lower (site_name s)) ∙ h)
+      told_to (inr (inl h)) = right_or (holds_in spaces (lower (site_name s))) _ (left_or (is_found (site_name s)) (contains_text met (lower (site_name s))) (found_is (site_name s) ∙ h))
       told_to (inr (inr t)) =
           let r = here_before t.j t.other t.at t.before in
-          right_or (contains_text spaces (lower (site_name s))) _ (right_or (is_found (site_name s)) _
+          right_or (holds_in spaces (lower (site_name s))) _ (right_or (is_found (site_name s)) _
           (has_met (lower (site_name s))
           ∙ any_at (is_named sites (lower (site_name s))) stands i r.0 r.1 r.2 r.3
           (ap (λ (k : ℕ). has_name (lower (site_name s)) (slice_get sites k)) r.4 ∙ ap (has_name (lower (site_name s))) t.at ∙ t.same)))

@@ -1,20 +1,18 @@
 -- Texts that begin a name.
-use Rattle.std.proofs.Common.{◌≡◌, ⊎_elim, ◌<◌, ◌+◌, ℕ, Bool, true, false, ◌||◌, ◌&&◌, ◌==◌, cond, codes, List, [], ◌∷◌, ◌++◌, length, map, take, drop, slice_get, Some, Result, Ok, Err, OnOk, refl, sym, ap, ◌∙◌, arith, lit<}
+use Rattle.std.proofs.Common.{◌≡◌, ⊎_elim, ◌+◌, ℕ, Bool, true, false, ◌||◌, ◌&&◌, ◌==◌, cond, codes, List, [], ◌∷◌, ◌++◌, length, map, take, slice_get, Some, Result, Ok, Err, OnOk, refl, sym, ap, ◌∙◌, arith}
 use Rattle.std.specs.List.{list_any}
-use Rattle.std.specs.Str.{NoCharPasses, bytes_eq}
-use Rattle.std.specs.Str.Pattern.{RFindsChar, SplitsAroundMatch, HasCharAt}
+use Rattle.std.specs.Str.{bytes_eq}
 use Rattle.std.proofs.lemmas.Bool.Decides.{eqb_tells}
-use Rattle.std.proofs.lemmas.List.{take-append-drop, take_more, take_all, map-append, length-append}
+use Rattle.std.proofs.lemmas.List.{take_more, take_all, map-append}
 use Rattle.std.proofs.lemmas.List.Folds.{list_any-append}
 use Rattle.std.proofs.lemmas.Option.{slice_get_within}
-use Rattle.std.proofs.lemmas.Str.Pattern.{NoCharPasses-char, drop_at_char}
 use Rattle.wr_base.specs.Lower.{lower}
 use Rattle.wr_base.specs.Parts.{has}
-use Rattle.wr_base.proofs.PartLaws.{none_has}
 use Rattle.found_table.specs.Table.{table, foundation, name_of as found_name}
 use Rattle.wr_rules.specs.Sites.{Site, site_name}
 use Rattle.wr_rules.specs.NameRules.{begins, all_names}
 use Rattle.place_order.proofs.StandLaws.{get_there}
+use Rattle.namespace_rules.proofs.FrontLaws.{or_false}
 
 pub on_ok_then : {X E : Type 0} (r : Result X E) (P Q : Type 0) → (P → Q) → OnOk r P → OnOk r Q
 on_ok_then (Ok x) P Q f h = f h
@@ -34,14 +32,6 @@ and_false : (a : Bool) → (a && false) ≡ false
 and_false true = refl
 and_false false = refl
 
-or_false : (a : Bool) → (a || false) ≡ a
-or_false true = refl
-or_false false = refl
-
-or_assoc : (a b c : Bool) → ((a || b) || c) ≡ (a || (b || c))
-or_assoc true b c = refl
-or_assoc false b c = refl
-
 spread : (a b c : Bool) → (a && (b || c)) ≡ ((a && b) || (a && c))
 spread true b c = refl
 spread false b c = refl
@@ -51,7 +41,7 @@ flip a b = ⊎_elim
     (λ t. ⊎_elim (λ u. t.0 ∙ sym u.0) (λ u. absurd (u.1 (sym t.1))) (eqb_tells b a))
     (λ t. ⊎_elim (λ u. absurd (t.1 (sym u.1))) (λ u. t.0 ∙ sym u.0) (eqb_tells b a)) (eqb_tells a b)
 
--- ---- at the last dot
+-- ---- where no dot follows
 
 begins_none : (bs q : List ℕ) → has 46 bs ≡ false → begins q bs ≡ false
 begins_none [] [] h = refl
@@ -66,29 +56,6 @@ begins_cut (f ∷ fs) back [] h = refl
 begins_cut (f ∷ fs) back (a ∷ as_) h =
     ap (λ t. (a == f) && t) (begins_cut fs back as_ h) ∙ spread (a == f) (bytes_eq fs as_) (begins as_ fs)
     ∙ ap (λ t. (t && bytes_eq fs as_) || ((a == f) && begins as_ fs)) (flip a f)
-
-none_passes : (bs : List ℕ) → NoCharPasses (λ d. d == 46) bs → has 46 bs ≡ false
-none_passes bs none = none_has 46 bs (λ i l. NoCharPasses-char 46 bs i none (lit< tt) l)
-
-parts : (bs : List ℕ) (i j : ℕ) → HasCharAt 46 bs i j → bs ≡ take i bs ++ 46 ∷ drop j bs
-parts bs i j at = sym (take-append-drop i bs) ∙ ap (λ t. take i bs ++ t) (drop_at_char 46 bs i j at (lit< tt))
-
-begins_split : (rest front back q : List ℕ) → SplitsAroundMatch (RFindsChar 46) rest front back → begins q rest ≡ (bytes_eq front q || begins q front)
-begins_split rest front back q (i, j, (none, at), f, b, le, x, y) =
-    ap (begins q) (parts rest i j at) ∙ begins_cut (take i rest) (drop j rest) q (none_passes (drop j rest) none) ∙ ap (λ t. bytes_eq t q || begins q t) (sym f)
-
-pub cut_shorter : (rest front back : List ℕ) → SplitsAroundMatch (RFindsChar 46) rest front back → length front < length rest
-cut_shorter rest front back (i, j, (none, at), f, b, le, x, y) =
-    let a = ap length (parts rest i j at) in let m = length-append (take i rest) (46 ∷ drop j rest) in let n = ap length f in
-    omega (arith, a, m, n)
-
-pub spaces_more : (rest front back : List ℕ) (old new whole : List ℕ → Bool) → SplitsAroundMatch (RFindsChar 46) rest front back → ((q : List ℕ) → (old q || begins q rest) ≡ whole q) → ((q : List ℕ) → new q ≡ (old q || bytes_eq front q))
-    → (q : List ℕ) → (new q || begins q front) ≡ whole q
-spaces_more rest front back old new whole cut before adds q =
-    ap (λ t. t || begins q front) (adds q) ∙ or_assoc (old q) (bytes_eq front q) (begins q front) ∙ ap (λ t. old q || t) (sym (begins_split rest front back q cut)) ∙ before q
-
-pub spaces_end : (rest : List ℕ) (set whole : List ℕ → Bool) → NoCharPasses (λ d. d == 46) rest → ((q : List ℕ) → (set q || begins q rest) ≡ whole q) → (q : List ℕ) → set q ≡ whole q
-spaces_end rest set whole none before q = sym (or_false (set q)) ∙ ap (λ t. set q || t) (sym (begins_none rest q (none_passes rest none))) ∙ before q
 
 -- ---- found types
 

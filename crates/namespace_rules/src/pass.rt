@@ -11,7 +11,7 @@ ghost use Rattle.place_order.specs.Stands.{IsPlaceOrder};
 ghost use Rattle.set_limits.specs.Pass.{IsStep};
 ghost use Rattle.namespace_rules.specs.Spaces.{AddsText, HasSpaces, is_told};
 
-use crate::spaces::{add_text, spaces_of};
+use crate::spaces::{add_text, is_space, names_of};
 use found_table::is_found;
 use place_order::{Stand, in_place_order};
 use placed_sites::{Site, refuse_if};
@@ -40,17 +40,16 @@ pub fn site_of<'a>(types: &'a PlacedTypes, stands: &[Stand], i: usize) -> Site<'
 // Whether the name is taken; from here on it is.
 fn meet(
     alloc: Global,
-    spaces: &BTreeSet<String>,
+    names: &BTreeSet<String>,
     met: &mut BTreeSet<String>,
     name: &FullName,
 ) -> Result<bool, AllocError>
-    ensures told { IfOk result (λ b. b ≡ is_told spaces.now met.old name.now) }
+    ensures told { IfOk result (λ b. b ≡ is_told names.now met.old name.now) }
     ensures met { OnOk result (AddsText (lower name.now) met.old met.new) }
 {
     let text = lowered(alloc, name.as_str())?;
-    let told = spaces.contains(text.as_str())
-        || is_found(name.as_str())
-        || met.contains(text.as_str());
+    let is_space = is_space(alloc, names, text.as_str())?;
+    let told = is_space || is_found(name.as_str()) || met.contains(text.as_str());
     add_text(alloc, met, text.as_str())?;
     Ok(told)
 }
@@ -65,17 +64,17 @@ fn first_in_order(
     alloc: Global,
     types: &PlacedTypes,
     stands: &[Stand],
-    spaces: &BTreeSet<String>,
+    names: &BTreeSet<String>,
 ) -> Result<Option<Refusal>, AllocError>
     requires order { IsPlaceOrder (sites_of types.now.types types.now.places) stands.now }
-    requires spaces { HasSpaces (all_names (sites_of types.now.types types.now.places)) spaces.now }
+    requires names { HasSpaces (all_names (sites_of types.now.types types.now.places)) names.now }
     ensures { IfOk result (IsFirst (IsNamespaceClash (sites_of types.now.types types.now.places))) }
 {
     let mut first = None;
     let mut met = BTreeSet::new(alloc);
     for i in 0..stands.len() {
         let site = site_of(types, stands, i);
-        let told = meet(alloc, spaces, &mut met, site.declaration.name())?;
+        let told = meet(alloc, names, &mut met, site.declaration.name())?;
         first = earlier(first, refuse_at(alloc, &site, told)?);
     }
     Ok(first)
@@ -88,7 +87,7 @@ pub fn first_namespace_clash(
 ) -> Result<Option<Refusal>, AllocError>
     ensures { IfOk result (IsFirst (IsNamespaceClash (sites_of types.now.types types.now.places))) }
 {
-    let spaces = spaces_of(alloc, types)?;
+    let names = names_of(alloc, types)?;
     let stands = in_place_order(alloc, types)?;
-    first_in_order(alloc, types, stands.as_slice(), &spaces)
+    first_in_order(alloc, types, stands.as_slice(), &names)
 }

@@ -1,12 +1,12 @@
-//! The names of all namespaces that hold a type, in lower case.
+//! The names of all types, in lower case and in order, which are asked for the namespaces that hold them.
 
-ghost use Rattle.std.specs.Prelude.{◌≡◌, ◌≤◌, true, IfOk, OnOk, length};
-ghost use Rattle.std.specs.BTreeSet.{Updates, contains_text};
+ghost use Rattle.std.specs.Prelude.{◌≡◌, ◌≤◌, ◌++◌, ◌∷◌, [], ℕ, List, true, IfOk, OnOk, length, string_bytes};
+ghost use Rattle.std.specs.BTreeSet.{Updates, insert_key, contains_text};
 ghost use Rattle.std.specs.String.{string_cmp};
 ghost use Rattle.wr_base.specs.Lower.{lower};
 ghost use Rattle.wr_rules.specs.Sites.{sites_of};
 ghost use Rattle.wr_rules.specs.NameRules.{all_names};
-ghost use Rattle.namespace_rules.specs.Spaces.{AddsText, AddsSpaces, HasSpaces};
+ghost use Rattle.namespace_rules.specs.Spaces.{holds_in, AddsText, AddsName, HasSpaces};
 
 use placed_sites::Site;
 use std::alloc::{AllocError, Global};
@@ -17,7 +17,8 @@ use wr_base::{PlacedTypes, lowered};
 const FOUNDATION: &str = "windows.foundation.";
 
 fn put(set: &mut BTreeSet<String>, text: String) -> Result<(), AllocError>
-    ensures { OnOk result (Updates string_cmp set.old set.new text true) }
+    ensures updates { OnOk result (Updates string_cmp set.old set.new text true) }
+    ensures keys { OnOk result (set.new.keys ≡ insert_key string_cmp set.old.keys text) }
 {
     match set.insert(text) {
         Ok(_) => Ok(()),
@@ -33,23 +34,51 @@ pub fn add_text(alloc: Global, set: &mut BTreeSet<String>, text: &str) -> Result
     put(set, text)
 }
 
-// From the deepest namespace to the outermost.
-fn add_spaces(alloc: Global, set: &mut BTreeSet<String>, name: &str) -> Result<(), AllocError>
-    ensures { OnOk result (AddsSpaces name.now set.old set.new) }
+// A name more in the set.
+fn add_name(set: &mut BTreeSet<String>, name: String) -> Result<(), AllocError>
+    ensures { OnOk result (AddsName (string_bytes name) set.old set.new) }
 {
-    let mut rest = name;
-    'more: while let Some((space, _)) = rest.rsplit_once('.') {
-        add_text(alloc, set, space)?;
-        rest = space;
-    }
-    Ok(())
+    put(set, name)
+}
+
+fn add_small(alloc: Global, set: &mut BTreeSet<String>, name: &str) -> Result<(), AllocError>
+    ensures { OnOk result (AddsName name.now set.old set.new) }
+{
+    let name = String::from_str(alloc, name)?;
+    add_name(set, name)
 }
 
 fn add_lower(alloc: Global, set: &mut BTreeSet<String>, name: &str) -> Result<(), AllocError>
-    ensures { OnOk result (AddsSpaces (lower name.now) set.old set.new) }
+    ensures { OnOk result (AddsName (lower name.now) set.old set.new) }
 {
-    let text = lowered(alloc, name)?;
-    add_spaces(alloc, set, text.as_str())
+    let name = lowered(alloc, name)?;
+    add_name(set, name)
+}
+
+// Whether a name begins with this text: the first that doesn't stand before it does, where any does.
+fn begins_any(names: &BTreeSet<String>, front: &String) -> bool
+    ensures { (text : List ℕ) → string_bytes front.now ≡ text ++ 46 ∷ [] → result ≡ holds_in names.now text }
+{
+    match names.range(front..).next() {
+        None => false,
+        Some(name) => name
+            .as_str()
+            .as_bytes()
+            .starts_with(front.as_str().as_bytes()),
+    }
+}
+
+/// Whether the text is the name of a namespace that holds one of the names.
+pub(crate) fn is_space(
+    alloc: Global,
+    names: &BTreeSet<String>,
+    text: &str,
+) -> Result<bool, AllocError>
+    ensures { IfOk result (λ b. b ≡ holds_in names.now text.now) }
+{
+    let mut front = String::from_str(alloc, text)?;
+    front.push_str(".")?;
+    Ok(begins_any(names, &front))
 }
 
 // How many declarations have places.
@@ -67,12 +96,12 @@ fn site_count(types: &PlacedTypes) -> u32
     }
 }
 
-/// The namespaces of all declared and found types.
-pub(crate) fn spaces_of(alloc: Global, types: &PlacedTypes) -> Result<BTreeSet<String>, AllocError>
+/// The names of all declared types, and the namespace of the found ones.
+pub(crate) fn names_of(alloc: Global, types: &PlacedTypes) -> Result<BTreeSet<String>, AllocError>
     ensures { IfOk result (λ set. HasSpaces (all_names (sites_of types.now.types types.now.places)) set) }
 {
     let mut set = BTreeSet::new(alloc);
-    add_spaces(alloc, &mut set, FOUNDATION)?;
+    add_small(alloc, &mut set, FOUNDATION)?;
     for i in 0..site_count(types) {
         let site = Site::at(types, i);
         add_lower(alloc, &mut set, site.declaration.name().as_str())?;

@@ -14,8 +14,8 @@ loop-i-preserved c = record {
   met = met_more (sites_of c.args.types.now.types c.args.types.now.places) c.args.stands.now c.loop-i.i c.site_of-site.ensures.stand (site_view c.site_of-site.result) c.name.result.now c.loop-i.met c.meet.new.met c.site_of-site.ensures.there c.site_of-site.ensures.at
       c.name.ensures c.loop-i.invariant.met c.in_ok-told.ensures.met;
   first = one_more_as (ClashAt (sites_of c.args.types.now.types c.args.types.now.places) c.args.stands.now) c.loop-i.i c.loop-i.first c.in_ok-refuse_at.field-0 c.earlier-first.result c.earlier-first.ensures c.loop-i.invariant.first
-      (step_clash (sites_of c.args.types.now.types c.args.types.now.places) c.args.stands.now c.requires.order c.loop-i.i c.site_of-site.ensures.stand (site_view c.site_of-site.result) c.site_of-site.ensures.there c.site_of-site.ensures.at c.args.spaces.now c.loop-i.met
-      c.requires.spaces c.loop-i.invariant.met c.in_ok-told.told c.name.result.now c.in_ok-refuse_at.field-0 c.name.ensures c.in_ok-told.ensures.told c.in_ok-refuse_at.ensures);
+      (step_clash (sites_of c.args.types.now.types c.args.types.now.places) c.args.stands.now c.requires.order c.loop-i.i c.site_of-site.ensures.stand (site_view c.site_of-site.result) c.site_of-site.ensures.there c.site_of-site.ensures.at c.args.names.now c.loop-i.met
+      c.requires.names c.loop-i.invariant.met c.in_ok-told.told c.name.result.now c.in_ok-refuse_at.field-0 c.name.ensures c.in_ok-told.ensures.told c.in_ok-refuse_at.ensures);
 }
 
 pub returns : goal.returns

@@ -10,4 +10,4 @@ returns c =
     on_ok_then c.put.result _ _
     (λ u q. btree_set_updates_text (string_bytes c.in_ok-text.text) c.args.set.now c.put.new.set true u q
     ∙ ap (λ (t : List ℕ). cond (bytes_eq t q) true (contains_text c.args.set.now q)) c.in_ok-text.ensures.ok
-    ∙ cond_or (bytes_eq c.args.text.now q) (contains_text c.args.set.now q)) c.put.ensures
+    ∙ cond_or (bytes_eq c.args.text.now q) (contains_text c.args.set.now q)) c.put.ensures.updates
