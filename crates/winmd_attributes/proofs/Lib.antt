@@ -1,0 +1,4 @@
+pub mod ValueLaws
+pub mod NamedLaws
+pub mod EachLaws
+pub mod ListLaws
