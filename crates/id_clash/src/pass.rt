@@ -1,7 +1,9 @@
 //! The pass over declarations in the order of their places, with the ids and texts that were met so far.
 
-ghost use Rattle.std.specs.Prelude.{◌≡◌, ◌<◌, ℕ, List, IsTrue, IfOk, length};
+ghost use Rattle.std.specs.Prelude.{◌≡◌, ◌<◌, ℕ, List, IsTrue, IfOk, length, false};
+ghost use Rattle.std.specs.Ordering.{nat_cmp};
 ghost use Rattle.std.specs.BTreeMap.{get_by_text};
+ghost use Rattle.std.specs.BTreeSet.{contains, contains_text};
 ghost use Rattle.ranked.specs.First.{IsFirst};
 ghost use Rattle.wr_base.specs.Paths.{is_path};
 ghost use Rattle.wr_base.specs.Declarations.{IsInOrder};
@@ -14,7 +16,7 @@ ghost use Rattle.id_table.specs.Taken.{owner};
 ghost use Rattle.id_rules.specs.Table.{first_id};
 ghost use Rattle.id_rules.specs.Reserved.{OwnsReserved};
 
-use crate::items::{meet, nothing_met};
+use crate::items::{Met, meet, nothing_met};
 use id_rules::{instance_ids, reserved_owners};
 use namespace_rules::site_of;
 use place_order::{Stand, in_place_order};
@@ -43,19 +45,21 @@ fn first_in_order(
     stands: &[Stand],
     table: &BTreeMap<String, Option<u128>>,
     reserved: &BTreeMap<u128, u32>,
+    met: &mut Met,
 ) -> Result<Option<Refusal>, AllocError>
     requires in_order { IsInOrder types.now.types }
     requires order { IsPlaceOrder (sites_of types.now.types types.now.places) stands.now }
     requires table { (text : List ℕ) → get_by_text table.now text ≡ first_id types.now.types (instances_in (sites_of types.now.types types.now.places)) text }
     requires reserved { OwnsReserved (owner reserved.now) }
+    requires no_ids { (id : ℕ) → contains nat_cmp met.old.ids id ≡ false }
+    requires no_texts { (text : List ℕ) → contains_text met.old.texts text ≡ false }
     ensures { IfOk result (IsFirst (IsDuplicateId types.now.types (sites_of types.now.types types.now.places))) }
 {
     let mut first = None;
-    let mut met = nothing_met(alloc);
     for i in 0..stands.len() {
         let site = site_of(types, stands, i);
         name_is_path(&site);
-        let told = meet(alloc, table, reserved, &mut met, &site)?;
+        let told = meet(alloc, table, reserved, met, &site)?;
         first = earlier(first, refuse_at(alloc, &site, told)?);
     }
     Ok(first)
@@ -80,7 +84,8 @@ fn first_by(
 {
     in_order(&types.types);
     let stands = in_place_order(alloc, types)?;
-    first_in_order(alloc, types, stands.as_slice(), table, reserved)
+    let mut met = nothing_met(alloc);
+    first_in_order(alloc, types, stands.as_slice(), table, reserved, &mut met)
 }
 
 /// The first declaration that has an id, or is the first to use an instance with an id, that is reserved or that another

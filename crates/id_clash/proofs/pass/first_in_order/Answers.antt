@@ -12,8 +12,8 @@ use Rattle.id_clash.proofs.pass.first_in_order.Goals as goal
 
 pub loop-i-init : goal.loop-i-init
 loop-i-init c = record {
-  passed = nothing_passed c.args.types.now.types (sites_of c.args.types.now.types c.args.types.now.places) c.args.stands.now (is_had c.args.reserved.now c.nothing_met-met.result.ids) (contains_text c.nothing_met-met.result.texts)
-      (had_reserved c.args.reserved.now c.nothing_met-met.result.ids c.requires.reserved c.nothing_met-met.ensures.ids) c.nothing_met-met.ensures.texts;
+  passed = nothing_passed c.args.types.now.types (sites_of c.args.types.now.types c.args.types.now.places) c.args.stands.now (is_had c.args.reserved.now c.args.met.now.ids) (contains_text c.args.met.now.texts)
+      (had_reserved c.args.reserved.now c.args.met.now.ids c.requires.reserved c.requires.no_ids) c.requires.no_texts;
   first = none_below _;
 }
 
