@@ -100,9 +100,9 @@ fn first_clash(alloc: Global, members: &[Standing<Member>]) -> Result<Option<Ref
     first_among(alloc, &tallies, members)
 }
 
-/// Refuses each member that has an ABI name that another member has, as its own ABI name or as its name, and each whose
-/// name is an ABI name of a member of another name; all but for ASCII case (a property's `get_` and `put_`, an event's
-/// `add_` and `remove_`, a method's own).
+/// Refuses each member that has an ABI name that another member has too, or that is the name of a member of another
+/// name, and each whose name is an ABI name of a member of another name; all but for ASCII case. ABI names are a
+/// method's own, and the accessors `get_` and `put_` of a property and `add_` and `remove_` of an event.
 #[derive(Clone, Copy, Debug)]
 pub struct AccessorClash;
 
