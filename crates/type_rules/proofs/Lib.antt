@@ -1,0 +1,2 @@
+pub mod RuleOrder
+pub mod Answering
