@@ -22,7 +22,7 @@ use Rattle.wr_rules.specs.Accepted.{IsUse, has_arguments}
 use Rattle.wr_rules.specs.Sites.{Spot, Site, spot_of}
 use Rattle.wr_rules.specs.UseRules.{unresolved, wrong_kind, is_by_name}
 use Rattle.wr_rules.specs.Uses.{listed, Used, used_at, name_at, optional, uses_at}
-use Rattle.writable_sets.specs.Stated.{HasNumbers}
+use Rattle.writable_sets.specs.Stated.{HasOrder}
 use Rattle.writable_sets.proofs.Facts.{RuleFacts}
 use Rattle.writable_sets.proofs.Fitting.{un_map, not_false, rising_trees, HasOne}
 use Rattle.writable_sets.proofs.Texts.{IsMeantAs, one_use}
@@ -107,7 +107,7 @@ module _ (types : List Declaration) (own : All OwnName types) where
       (map_all (λ s. text_of_tree s ≡ text_of_tree (tree_of u) → s ≡ tree_of u) tree_of has (λ k d l e. one_use types own (tree_of (get_or has k d)) (tree_of u) (ms k d l).0 m.0 (ms k d l).1 m.1 e))
       (ap (λ t. list_any (λ s. bytes_eq (text_of_tree s) t) (map tree_of has)) (text_of-tree_of u) ∙ any_tree (text_of u) has ∙ h)
 
-  pub has_one : (d : Declaration) (p : DeclPlaces) → RuleFacts types (record { decl = d; places = p }) → All (λ (u : Used). IsUse u.use_) (uses_at (record { decl = d; places = p })) → HasNumbers d → HasOne d
+  pub has_one : (d : Declaration) (p : DeclPlaces) → RuleFacts types (record { decl = d; places = p }) → All (λ (u : Used). IsUse u.use_) (uses_at (record { decl = d; places = p })) → HasOrder d → HasOne d
   has_one (Enum name version flags cases) p r u n = tt
   has_one (Struct name version fields) p r u n = tt
   has_one (Delegate name version id invoke) p r u n = tt
@@ -120,4 +120,4 @@ module _ (types : List Declaration) (own : All OwnName types) where
       let last = split_all MeansIt (optional listed spot (Some default) ++ map (used_at listed spot) has ++ map (name_at spot) factories) (map (name_at spot) statics) all in
       let next = split_all MeansIt (optional listed spot (Some default) ++ map (used_at listed spot) has) (map (name_at spot) factories) last.0 in
       let first = split_all MeansIt (optional listed spot (Some default)) (map (used_at listed spot) has) next.0 in
-      one_of default has (All-head MeansIt (used_at listed spot default) [] first.0) (un_map MeansIt (used_at listed spot) has first.1) n.1 (not_false (list_any (λ v. bytes_eq (text_of v) (text_of default)) has) r.default)
+      one_of default has (All-head MeansIt (used_at listed spot default) [] first.0) (un_map MeansIt (used_at listed spot) has first.1) n.0 (not_false (list_any (λ v. bytes_eq (text_of v) (text_of default)) has) r.default)

@@ -35,7 +35,7 @@ use Rattle.wr_rules.specs.Members.{Standing, standing, members_at, cases_at, fie
 use Rattle.wr_rules.specs.Sites.{Spot, Site, spot_of, part_spot}
 use Rattle.wr_rules.specs.UseRules.{wrong_kind, is_by_name, is_event, is_listed, is_delegate, is_interface, has_kind}
 use Rattle.wr_rules.specs.Uses.{Role, field, passed, event, listed, by_name, Used, used_at, name_at, optional, signature_uses, uses_by, member_uses, uses_at}
-use Rattle.writable_sets.specs.Stated.{HasNumbers, NotGuid, owner_of}
+use Rattle.writable_sets.specs.Stated.{HasWidths, HasOrder, NotGuid, owner_of}
 use Rattle.writable_sets.proofs.Facts.{RuleFacts}
 use Rattle.writable_sets.proofs.UseFits.{OwnName, split_all, and_parts, use_fits, cell_fits, interface_apart, delegate_apart}
 
@@ -205,7 +205,8 @@ HasOne (Class name version fixed default has direct factories statics) = filter 
 -- what is known of a declaration where it stands
 pub record Known (d : Declaration) (p : DeclPlaces) : Type 0 where
   pub own : OwnName d
-  pub numbers : HasNumbers d
+  pub widths : HasWidths d
+  pub order : HasOrder d
   pub owner : OwnerFits (owner_of d)
   pub places : part_count d ≤ length p.parts
   pub proper : IsProper (record { decl = d; places = p })
@@ -221,7 +222,7 @@ decl_fits (Enum name version flags cases) p k =
     let range : All (λ (c : Case). not (fits flags c.value) ≡ false) cases = stood (λ (c : Case). not (fits flags c.value) ≡ false) site (λ c. c.name) cases p.parts k.places k.range in
     record {
       named = k.own;
-      numbered = k.numbers;
+      numbered = k.widths;
       few = not_more 4000 (length cases) k.few;
       cases = same_rec (CaseFits flags) cases (λ i d l. record { named = part_as (get_or cases i d).name (k.proper.cases i d l); fits = value_fits flags (get_or cases i d).value (not_false (fits flags (get_or cases i d).value) (range i d l)) });
     }
@@ -231,7 +232,7 @@ decl_fits (Struct name version fields) p k =
     stood (λ (f : Field). UseFits 16 (tree_of f.ty)) site (λ f. f.name) fields p.parts k.places (un_map FitsUsed (λ (f : Standing Field). used_at field f.spot f.part.ty) (fields_at site) k.uses) in
     record {
       named = k.own;
-      numbered = k.numbers;
+      numbered = k.widths;
       few = omega (arith, not_more 4000 (length fields) k.few, length-map fields field_tree);
       fields = by_rec FieldFits field_tree fields (λ i d l. record { named = part_as (get_or fields i d).name (k.proper.fields i d l); kind = kinds i d l });
     }
@@ -239,8 +240,8 @@ decl_fits (Delegate name version id invoke) p k =
     let site : Site = record { decl = Delegate name version id invoke; places = p } in
     record {
       named = k.own;
-      numbered = k.numbers.0;
-      id_fits = k.numbers.1;
+      numbered = k.widths.0;
+      id_fits = k.widths.1;
       signed = signature_fits invoke (signature_uses_fit (spot_of site) invoke k.uses) (All-head SignedFew (record { part = invoke; spot = spot_of site }) [] k.params);
     }
 decl_fits (Interface name version id owner requires_ members) p k =
@@ -251,12 +252,12 @@ decl_fits (Interface name version id owner requires_ members) p k =
     let names : All MemberNames members = stood MemberNames site member_name members p.parts k.places (all_signed (members_at site) k.params) in
     record {
       named = k.own;
-      numbered = k.numbers.0;
-      id_fits = k.numbers.1;
+      numbered = k.widths.0;
+      id_fits = k.widths.1;
       owned_by = k.owner;
       few = omega (arith, not_more 4000 (length members) k.few, length-map members member_tree);
       uses = by_rec CellFits tree_of requires_ (un_map FitsUsed (used_at listed (spot_of site)) requires_ parts.0);
-      rising = rising_trees requires_ k.numbers.2;
+      rising = rising_trees requires_ k.order;
       members = by_rec MemberFits member_tree members (λ i d l. member_fits (get_or members i d) (k.proper.members i d l) (k.proper.abis i d l) (uses i d l) (names i d l));
     }
 decl_fits (Class name version fixed default has direct factories statics) p k =
@@ -266,12 +267,12 @@ decl_fits (Class name version fixed default has direct factories statics) p k =
     let first = split_all FitsUsed (optional listed spot default) (map (used_at listed spot) has) next.0 in
     record {
       named = k.own;
-      numbered = k.numbers.0;
+      numbered = k.widths;
       uses = by_rec CellFits tree_of has (un_map FitsUsed (used_at listed spot) has first.1);
-      rising = rising_trees has k.numbers.1;
+      rising = rising_trees has k.order.0;
       one = k.one;
       factories = same_rec rows.IsName factories (un_map FitsUsed (name_at spot) factories next.1);
-      factories_rising = k.numbers.2;
+      factories_rising = k.order.1;
       statics = same_rec rows.IsName statics (un_map FitsUsed (name_at spot) statics last.1);
-      statics_rising = k.numbers.3;
+      statics_rising = k.order.2;
     }

@@ -67,7 +67,8 @@ module _ (types : List Declaration) (accepted : Accepted types) (stated : All (I
   known : (k : ℕ) (d : Declaration) → k < length types → Known (get_or types k d) (plain_site types k d).places
   known k d l = record {
     own = own k d l;
-    numbers = (stated k d l).numbers;
+    widths = (stated k d l).widths;
+    order = (stated k d l).order;
     owner = owner_fits (owner_of (get_or types k d)) (stated k d l).owner;
     places = plain_parts types k d;
     proper = proper_at k d l;
@@ -75,7 +76,7 @@ module _ (types : List Declaration) (accepted : Accepted types) (stated : All (I
     range = (rule_at k d l).range;
     few = (limit_at k d l).members;
     params = (λ i g m. record { named = (proper_at k d l).params i g m; few = not_more 64 (length (get_or (signatures_at (plain_site types k d)) i g).part.params) ((limit_at k d l).params i g m) });
-    one = has_one types own (get_or types k d) (plain_site types k d).places (rule_at k d l) (proper_at k d l).uses (stated k d l).numbers;
+    one = has_one types own (get_or types k d) (plain_site types k d).places (rule_at k d l) (proper_at k d l).uses (stated k d l).order;
   }
 
   pub each_fits : AllByRecursion DeclFits (map decl_tree types)

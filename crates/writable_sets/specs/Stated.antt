@@ -14,13 +14,21 @@ use Rattle.wr_base.specs.declared.declaration.Declaration.TheVariants.{Enum, Str
 use Rattle.wr_rules.specs.Sites.{Site, sites_of}
 use Rattle.wr_rules.specs.Uses.{Used, uses_at}
 
--- the version has 32 bits, the id of an interface or a delegate 128, and lists stand in the order of texts, each once
-abbrev pub HasNumbers : Declaration → Type 0
-HasNumbers (Enum name version flags cases) = version < 2 ^ 32
-HasNumbers (Struct name version fields) = version < 2 ^ 32
-HasNumbers (Delegate name version id invoke) = (version < 2 ^ 32) × (id < 2 ^ 128)
-HasNumbers (Interface name version id owner requires_ members) = (version < 2 ^ 32) × (id < 2 ^ 128) × Rising text_of requires_
-HasNumbers (Class name version fixed default has direct factories statics) = (version < 2 ^ 32) × Rising text_of has × Rising (λ name. name) factories × Rising (λ name. name) statics
+-- the version has 32 bits, and the id of an interface or a delegate 128
+abbrev pub HasWidths : Declaration → Type 0
+HasWidths (Enum name version flags cases) = version < 2 ^ 32
+HasWidths (Struct name version fields) = version < 2 ^ 32
+HasWidths (Delegate name version id invoke) = (version < 2 ^ 32) × (id < 2 ^ 128)
+HasWidths (Interface name version id owner requires_ members) = (version < 2 ^ 32) × (id < 2 ^ 128)
+HasWidths (Class name version fixed default has direct factories statics) = version < 2 ^ 32
+
+-- lists stand in the order of texts, each once
+abbrev pub HasOrder : Declaration → Type 0
+HasOrder (Enum name version flags cases) = ⊤
+HasOrder (Struct name version fields) = ⊤
+HasOrder (Delegate name version id invoke) = ⊤
+HasOrder (Interface name version id owner requires_ members) = Rising text_of requires_
+HasOrder (Class name version fixed default has direct factories statics) = Rising text_of has × Rising (λ name. name) factories × Rising (λ name. name) statics
 
 -- a value of this name is the base type Guid (ECMA-335 II.23.1.16)
 abbrev pub NotGuid : UseTree → Type 0
@@ -46,8 +54,9 @@ abbrev pub IsOwned : List Declaration → Option (List ℕ) → Type 0
 IsOwned types None = ⊤
 IsOwned types (Some owner) = Contains (map name_of types) owner
 
--- a declaration of a set whose full name is a path, with its numbers and a declared owner
+-- a declaration of a set whose full name is a path, with its widths, lists in order and a declared owner
 pub record IsStated (types : List Declaration) (d : Declaration) : Type 0 where
   pub path : is_path (name_of d) ≡ true
-  pub numbers : HasNumbers d
+  pub widths : HasWidths d
+  pub order : HasOrder d
   pub owner : IsOwned types (owner_of d)
