@@ -97,7 +97,7 @@ awk '
         in_tool = part[1] == name[2] && part[2] == 900
         right = (source == "shop" && answer == 0 && text == "" && image == "the image") ||
             (source == "gone" && answer == 3 && text == "gone.idl: Missing\n" && image == "no image") ||
-            (source == "twice" && answer == 1 && text == "twice.idl: NotYet\n" && image == "no image")
+            (source == "twice" && answer == 1 && text == "twice.idl(1,37): EnumRepeat: Shop.Size.Small\n" && image == "no image")
         refused = answer == 6 && text == "" && image == "no image"
         if (!($0 ~ /run=ended/) || !(right || (in_tool && refused))) { print source " behind " name[2] ": " line " " text $0; failed = 1 }
         if (part[1] < name[2]) before[source]++

@@ -2,8 +2,8 @@
 use Rattle.std.proofs.Common.{◌≡◌, ◌⊎◌, ℕ, ◌≤◌, true, false, List, [], take, Option, None, Some, refl, sym, ap, subst, ◌∙◌, inl, inr, append-nil, arith}
 use Rattle.wr_outside.specs.Files.{Files, with_file, with_put, WritesSome}
 use Rattle.wr_tools.specs.Says.{Says}
-use Rattle.wr_tools.specs.Outside.{Outside, CountsRise}
-use Rattle.wr_tools.specs.Reply.{refusal, done}
+use Rattle.wr_tools.specs.Outside.{Outside, CountsRise, MayHold}
+use Rattle.wr_tools.specs.Reply.{Reply, refusal, done}
 use Rattle.wr_tools.specs.Command.{Command, Owes}
 use Rattle.wr_tools.specs.Lines.{IsLine, HasPart, ReadFaultLine, WriteFaultLine}
 use Rattle.wr_tools.specs.Answers.{Answers, ErrFailed, WrittenInPart}
@@ -11,6 +11,18 @@ use Rattle.wr_tools.specs.Answers.{Answers, ErrFailed, WrittenInPart}
 pub with_put-nil : (told : Option (List ℕ)) → told ≡ with_put told []
 with_put-nil None = refl
 with_put-nil (Some before) = ap Some (sym (append-nil before))
+
+-- what the command accepts it replies 0 to
+abbrev pub IsSettled : Command → Type 0
+IsSettled command = (files : Files) (reply : Reply) → command.accepts files → command.replies files reply → reply.status ≡ 0
+
+-- a store that tells its files may hold no others
+as_told : (held : Option Files) (told files : Files) → held ≡ Some told → MayHold held files → told ≡ files
+as_told held told files e may = subst (λ h. MayHold h files) e may
+
+owed_done : (command : Command) (held : Option Files) (told : Files) (reply : Reply) → IsSettled command → held ≡ Some told → command.accepts told → Owes command held reply
+    → reply.status ≡ 0
+owed_done command held told reply settled e ok owed = settled owed.files reply (subst command.accepts (as_told held told owed.files e owed.may_hold) ok) owed.replies
 
 module _ (command : Command) (before after : Outside) where
   -- err failed
@@ -20,6 +32,7 @@ module _ (command : Command) (before after : Outside) where
     reply = λ ok. let bad : true ≡ false = ok in cc;
     unmatched = λ e. absurd (omega arith);
     matched = λ e. inr (inl (refl, failed));
+    accepted = λ files told ok stay. absurd (stay.err failed.rose);
     unwritten = λ low high. absurd (omega arith);
     read_fault = λ e. absurd (omega arith);
     write_fault = λ e. inr failed;
@@ -38,6 +51,7 @@ module _ (command : Command) (before after : Outside) where
     reply = λ ok. let bad : true ≡ false = ok in cc;
     unmatched = λ e. absurd (omega arith);
     matched = λ e. inr (inr refl);
+    accepted = λ files told ok stay. inr refl;
     unwritten = λ low high. absurd (omega arith);
     read_fault = λ e. absurd (omega arith);
     write_fault = λ e. absurd (omega arith);
@@ -62,11 +76,11 @@ module _ (command : Command) (before after : Outside) where
       subst (Answers command before after) (sym e) (no_memory (inr (record { line = line; owed = owed; n = part.0; is = part.1 })) out stopped counts)
 
   -- a refusal that is owed, with its line on err
-  refused : (status : ℕ) (line : List ℕ) → 1 ≤ status → status ≤ 3
+  refused : (status : ℕ) (line : List ℕ) → IsSettled command → 1 ≤ status → status ≤ 3
       → (status ≡ 2 → command.matched ≡ false) → (command.matched ≡ false → status ≡ 2)
       → Owes command before.held (refusal status line) → after.held ≡ before.held → after.out ≡ before.out → CountsRise before after
       → after.err ≡ with_put before.err line → Answers command before after status
-  refused status line low high unmatched matched owed held out counts err = record {
+  refused status line settled low high unmatched matched owed held out counts err = record {
     reply = λ ok. record {
       reply = refusal status line;
       owed = owed;
@@ -74,6 +88,9 @@ module _ (command : Command) (before after : Outside) where
     };
     unmatched = unmatched;
     matched = λ e. inl (matched e);
+    accepted = λ files told ok stay.
+        let zero_ : status ≡ 0 = owed_done command before.held files (refusal status line) settled told ok owed in
+        absurd (omega (arith, zero_, low));
     unwritten = λ l h. held;
     read_fault = λ e. absurd (omega arith);
     write_fault = λ e. absurd (omega arith);
@@ -86,12 +103,12 @@ module _ (command : Command) (before after : Outside) where
   }
 
   -- the same, however the sink did
-  pub refuses : (status answer : ℕ) (line : List ℕ) → 1 ≤ status → status ≤ 3
+  pub refuses : (status answer : ℕ) (line : List ℕ) → IsSettled command → 1 ≤ status → status ≤ 3
       → (status ≡ 2 → command.matched ≡ false) → (command.matched ≡ false → status ≡ 2)
       → Owes command before.held (refusal status line) → after.held ≡ before.held → after.out ≡ before.out → CountsRise before after
       → Says before.err after.err before.err_faults after.err_faults status line answer → Answers command before after answer
-  refuses status answer line low high unmatched matched owed held out counts says =
-      after_line status answer line (refused status line low high unmatched matched owed held out counts)
+  refuses status answer line settled low high unmatched matched owed held out counts says =
+      after_line status answer line (refused status line settled low high unmatched matched owed held out counts)
       (inl (record { reply = refusal status line; owed = owed; not_done = low; is = refl })) out (inl held) counts says
 
   read_failed : (line : List ℕ) → command.matched ≡ true → ReadFaultLine command before after line → after.held ≡ before.held → after.out ≡ before.out
@@ -100,6 +117,7 @@ module _ (command : Command) (before after : Outside) where
     reply = λ ok. let bad : true ≡ false = ok in cc;
     unmatched = λ e. absurd (omega arith);
     matched = λ e. let bad : true ≡ false = sym matched ∙ e in cc;
+    accepted = λ files told ok stay. absurd (stay.store cause.rose);
     unwritten = λ l h. held;
     read_fault = λ e. record { line = line; cause = cause; is = err };
     write_fault = λ e. absurd (omega arith);
@@ -125,6 +143,7 @@ module _ (command : Command) (before after : Outside) where
     reply = λ ok. let bad : true ≡ false = ok in cc;
     unmatched = λ e. absurd (omega arith);
     matched = λ e. let bad : true ≡ false = sym matched ∙ e in cc;
+    accepted = λ files told ok stay. absurd (stay.store cause.rose);
     unwritten = λ l h. absurd (omega arith);
     read_fault = λ e. absurd (omega arith);
     write_fault = λ e. inl (record { line = line; cause = inl cause; is = err });
@@ -155,6 +174,7 @@ module _ (command : Command) (before after : Outside) where
     };
     unmatched = λ e. absurd (omega arith);
     matched = λ e. let bad : true ≡ false = sym matched ∙ e in cc;
+    accepted = λ files told ok stay. inl refl;
     unwritten = λ l h. absurd (omega arith);
     read_fault = λ e. absurd (omega arith);
     write_fault = λ e. absurd (omega arith);

@@ -1,10 +1,6 @@
-mod FitLemmas
 pub mod SayLemmas
 pub mod EndLemmas
-mod MadeLemmas
+mod SetLemmas
 mod OwedLemmas
 mod WordLemmas
 mod WordsOwed
-mod Distinct
-pub mod BareLemmas
-pub mod SmallLemmas

@@ -1,33 +1,24 @@
 -- Which reply is owed, by what reading and resolving a set answered.
-use Rattle.std.proofs.Common.{◌≡◌, ◌≢◌, ℕ, suc, ◌+◌, ◌≤◌, List, [], ◌∷◌, ◌++◌, map, slice_get, codes, Option, None, Some, IsTrue, refl, sym, ap, subst, ◌∙◌, inl, inr, arith}
-use Rattle.std.specs.List.{list_all}
-use Rattle.std.proofs.lemmas.List.Folds.{list_all-map}
+use Rattle.std.proofs.Common.{◌≡◌, ◌≢◌, ℕ, suc, ◌+◌, ◌≤◌, List, [], ◌∷◌, ◌++◌, map, slice_get, Option, Some, refl, sym, ap, subst, ◌∙◌, inl, inr, arith}
 use Rattle.ranked.specs.Entries.{Entry}
-use Rattle.ranked.specs.First.{IsFirst, Clear}
-use Rattle.wr_base.specs.declared.declaration.Declaration.{Declaration}
 use Rattle.wr_outside.specs.Files.{Files}
 use Rattle.midl_tree.specs.declared.nodes.File.{File}
 use Rattle.midl_tree.specs.Views.{source_view}
-use Rattle.placed_items.specs.declared.placed.PlacedItem.{PlacedItem}
-use Rattle.midl_names.specs.Declares.{Declares}
 use Rattle.midl_names.specs.Items.{Source as Tree}
-use Rattle.midl_names.specs.Names.{Names}
 use Rattle.midl_names.specs.Views as views
 use Rattle.source_set.specs.declared.source.Source.{Source}
 use Rattle.source_set.specs.Events.{Event, too_many, missing, too_long, refused}
-use Rattle.source_set.specs.Found.{Read}
 use Rattle.source_set.specs.Lines.{IsRefusalLine}
 use Rattle.source_set.specs.Texts.{text_of, text_in}
 use Rattle.source_set.specs.Reads.{read_of, text_view, AreNumbered}
 use Rattle.source_set.specs.Stops.{Complete, Stopped, Faulted, Reached}
-use Rattle.wr_tools.specs.Bare.{source_is_bare}
 use Rattle.wr_tools.specs.Command.{Owes}
 use Rattle.wr_tools.specs.Lines.{read_fault}
-use Rattle.wr_tools.specs.Made.{SmallAlone, Makes}
-use Rattle.wr_tools.specs.Midl.{EventLine, status_of, midl_command, first_word}
+use Rattle.wr_tools.specs.Made.{Made}
+use Rattle.wr_tools.specs.Midl.{EventLine, status_of, midl_command}
 use Rattle.wr_tools.specs.Outcomes.{RefusalOwed, ReadFaultOwed}
-use Rattle.wr_tools.specs.Reply.{refusal, done}
-use Rattle.wr_tools.specs.Sets.{sources_from, sources_of, IsSmall}
+use Rattle.wr_tools.specs.Reply.{done}
+use Rattle.wr_tools.specs.Sets.{sources_from, sources_of, FirstFault}
 
 -- ---- a set that isn't read whole
 
@@ -114,11 +105,11 @@ module _ (words : List (List ℕ)) (held : Option Files) (sources : List Source)
   trees : views.sources_of files ≡ sources_of (map read_of sources)
   trees = same_trees sources files complete.numbered are
 
-  -- a fault of the names phase
-  pub names_owed : (texts : List (List ℕ × List ℕ)) (e : Entry) (line : List ℕ) → texts ≡ map (λ (s : Source). text_view s.text) sources
-      → IsFirst (Names (views.sources_of files)) (Some e) → IsRefusalLine (text_in texts e.file).0 (text_in texts e.file).1 e line
+  -- a fault of the set
+  pub fault_owed : (texts : List (List ℕ × List ℕ)) (e : Entry) (line : List ℕ) → texts ≡ map (λ (s : Source). text_view s.text) sources
+      → FirstFault (views.sources_of files) e → IsRefusalLine (text_in texts e.file).0 (text_in texts e.file).1 e line
       → RefusalOwed words held 1 line
-  names_owed texts e line same first said = record {
+  fault_owed texts e line same first said = record {
     low = omega arith;
     high = omega arith;
     matched = λ e. absurd (omega (arith, e));
@@ -129,7 +120,7 @@ module _ (words : List (List ℕ)) (held : Option Files) (sources : List Source)
         reads = map read_of sources;
         read = complete.none;
         fault = e;
-        first = subst (λ (ts : List Tree). IsFirst (Names ts) (Some e)) trees first;
+        first = subst (λ (ts : List Tree). FirstFault ts e) trees first;
         line = line;
         said = subst (λ (ts : List (List ℕ × List ℕ)). IsRefusalLine (text_in ts e.file).0 (text_in ts e.file).1 e line) (same ∙ sym (same_texts sources)) said;
         is = refl;
@@ -137,66 +128,21 @@ module _ (words : List (List ℕ)) (held : Option Files) (sources : List Source)
     };
   }
 
-  -- without attributes, whether asked of nodes or of trees
-  same_bare : list_all (λ (f : File). source_is_bare (source_view f)) files ≡ list_all (λ (r : Read). source_is_bare r.tree) (map read_of sources)
-  same_bare =
-      ap (list_all (λ (f : File). source_is_bare (source_view f))) are
-      ∙ list_all-map (λ (f : File). source_is_bare (source_view f)) (λ (t : Source). t.file) sources
-      ∙ sym (list_all-map (λ (r : Read). source_is_bare r.tree) read_of sources)
-
-  module _ (placed : List PlacedItem) (resolved : Clear (Names (views.sources_of files))) (declares : placed ≡ Declares (views.sources_of files)) where
-    clear : Clear (Names (sources_of (map read_of sources)))
-    clear = subst (λ (ts : List Tree). Clear (Names ts)) trees resolved
-
-    declared : placed ≡ Declares (sources_of (map read_of sources))
-    declared = declares ∙ ap Declares trees
-
-    small : (d : Declaration) → SmallAlone files placed d → IsSmall (map read_of sources) d
-    small d alone = record {
-      bare = subst IsTrue same_bare alone.bare;
-      alone = record { placed = alone.only.item; alone = sym declared ∙ alone.only.alone; is = alone.only.is };
-      small = alone.small;
-    }
-
-    alone_of : (d : Declaration) → IsSmall (map read_of sources) d → SmallAlone files placed d
-    alone_of d is = record {
-      bare = subst IsTrue (sym same_bare) is.bare;
-      only = record { item = is.alone.placed; alone = declared ∙ is.alone.alone; is = is.alone.is };
-      small = is.small;
-    }
-
-    -- no image is written yet
-    pub not_yet_owed : (name line : List ℕ) → name ≡ first_word words → line ≡ name ++ codes ": NotYet\n" → Makes files placed None → RefusalOwed words held 1 line
-    not_yet_owed name line first is none = record {
-      low = omega arith;
-      high = omega arith;
-      matched = λ e. absurd (omega (arith, e));
-      owed = λ out. record {
+  -- an image is written
+  pub image_owed : (bytes : List ℕ) → Made (views.sources_of files) bytes → (out : List ℕ) → Owes (midl_command out words) held (done out bytes)
+  image_owed bytes made out =
+      let here : Made (sources_of (map read_of sources)) bytes = subst (λ (ts : List Tree). Made ts bytes) trees made in
+      record {
         files = complete.files;
         may_hold = complete.may_hold;
-        replies = inr (inr (inl (record {
+        replies = inr (inr (record {
           reads = map read_of sources;
           read = complete.none;
-          resolved = clear;
-          none = λ d s. none d (alone_of d s);
-          is = ap (refusal 1) (is ∙ ap (λ n. n ++ codes ": NotYet\n") first);
-        })));
-      };
-    }
-
-    -- an image is written
-    pub image_owed : (bytes : List ℕ) → Makes files placed (Some bytes) → (out : List ℕ) → Owes (midl_command out words) held (done out bytes)
-    image_owed bytes (d, alone, image) out = record {
-      files = complete.files;
-      may_hold = complete.may_hold;
-      replies = inr (inr (inr (record {
-        reads = map read_of sources;
-        read = complete.none;
-        resolved = clear;
-        declaration = d;
-        small = small d alone;
-        bytes = bytes;
-        image = image;
-        is = refl;
-      })));
-    }
+          types = here.made.types;
+          resolved = here.resolved;
+          sound = here.made.sound;
+          bytes = bytes;
+          image = here.made.image;
+          is = refl;
+        }));
+      }

@@ -1,8 +1,8 @@
 -- What a call of the tool answers and leaves, whatever fails.
-use Rattle.std.specs.Prelude.{◌≡◌, ◌⊎◌, ℕ, ◌≤◌, true, false, List, take}
+use Rattle.std.specs.Prelude.{◌≡◌, ◌⊎◌, ℕ, ◌≤◌, true, false, List, take, Some}
 use Rattle.wr_outside.specs.Cause.{Rose}
-use Rattle.wr_outside.specs.Files.{with_put}
-use Rattle.wr_tools.specs.Outside.{Outside, CountsRise}
+use Rattle.wr_outside.specs.Files.{Files, with_put}
+use Rattle.wr_tools.specs.Outside.{Outside, CountsRise, NoneRose}
 use Rattle.wr_tools.specs.Reply.{Reply, Shows, StopsAt, is_fault, is_refusal}
 use Rattle.wr_tools.specs.Command.{Command, Owes}
 use Rattle.wr_tools.specs.Lines.{ReadFaultLine, WriteFaultLine, OutFaultLine, HasPart}
@@ -52,6 +52,8 @@ pub record Answers (command : Command) (before after : Outside) (status : ℕ) :
   pub unmatched : status ≡ 2 → command.matched ≡ false
   -- Where the words don't match, the answer is 2, or 5 by a failing err, or 6.
   pub matched : command.matched ≡ false → (status ≡ 2) ⊎ ((status ≡ 5) × ErrFailed command before after) ⊎ (status ≡ 6)
+  -- Where the command accepts what the store holds, and no call of the outside failed, the answer is 0, or 6.
+  pub accepted : (files : Files) → before.held ≡ Some files → command.accepts files → NoneRose before after → (status ≡ 0) ⊎ (status ≡ 6)
   -- On 1 to 4 the store is as before.
   pub unwritten : 1 ≤ status → status ≤ 4 → after.held ≡ before.held
   -- 4 comes only where a read failed, and err has its line.

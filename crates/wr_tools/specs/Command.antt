@@ -7,12 +7,14 @@ use Rattle.wr_tools.specs.Reply.{Reply}
 -- `matched`: the words are those of a command.
 -- `replies`: what it replies where the store holds these files and nothing fails.
 -- `awaits`: the inputs before which nothing is refused where the store holds these files.
+-- `accepts`: nothing is refused where the store holds these files.
 -- `writes`: the names of the files that it writes.
 -- `prints`: it may put something on out.
 pub record Command : Type 1 where
   pub matched : Bool
   pub replies : Files → Reply → Type 0
   pub awaits : Files → List ℕ → Type 0
+  pub accepts : Files → Type 0
   pub writes : List (List ℕ)
   pub prints : Bool
 

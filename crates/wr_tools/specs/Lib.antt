@@ -3,12 +3,10 @@ pub mod Reply
 pub mod Command
 pub mod Lines
 pub mod Answers
-pub mod SmallEnum
-pub mod Bare
 pub mod Sets
+pub mod Made
 pub mod Midl
 pub mod Words
-pub mod Made
 pub mod Said
 pub mod Outcomes
 pub mod Says

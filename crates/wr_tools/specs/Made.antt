@@ -1,44 +1,33 @@
--- What is made of a source set whose names are resolved.
-use Rattle.std.specs.Prelude.{◌≡◌, ℕ, Option, None, Some, List, [], ◌∷◌, IsTrue, Vec, string_bytes}
-use Rattle.std.specs.declared.alloc.Global.{Global}
-use Rattle.std.specs.List.{list_all}
+-- What is made of a set whose files have trees: an image, or its first fault.
+use Rattle.std.specs.Prelude.{ℕ, List}
+use Rattle.ranked.specs.Entries.{Entry}
+use Rattle.ranked.specs.First.{Clear}
+use Rattle.ranked.specs.declared.stop.Stop.{Stop}
+use Rattle.ranked.specs.declared.stop.Stop.TheVariants.{Refused, Memory}
 use Rattle.wr_base.specs.declared.declaration.Declaration.{Declaration}
-use Rattle.midl_tree.specs.declared.nodes.File.{File}
-use Rattle.midl_tree.specs.Views.{source_view}
 use Rattle.placed_items.specs.declared.placed.PlacedItem.{PlacedItem}
-use Rattle.placed_items.specs.declared.placed.Written.TheVariants.{Done}
-use Rattle.wr_tools.specs.Bare.{source_is_bare}
-use Rattle.wr_tools.specs.SmallEnum.{IsSmallEnum}
-use Rattle.wr_tools.specs.Sets.{Image}
+use Rattle.midl_names.specs.Declares.{Declares}
+use Rattle.midl_names.specs.Items.{Source}
+use Rattle.midl_names.specs.Names.{Names}
+use Rattle.wr_tools.specs.Sets.{FirstFault, FirstOfTypes, Image, Sound}
 
--- this declaration was placed, and nothing else
-pub record IsOnly (placed : List PlacedItem) (declaration : Declaration) : Type 0 where
-  pub item : PlacedItem
-  pub alone : placed ≡ item ∷ []
-  pub is : item.item ≡ Done declaration
+-- nothing is broken in what is declared, and the bytes are an image of its full types
+pub record MadeOf (items : List PlacedItem) (bytes : List ℕ) : Type 0 where
+  pub types : List Declaration
+  pub sound : Sound items types
+  pub image : Image types bytes
 
--- the image of a declaration, or none where none is written for it so far
-abbrev pub MakesOne : Declaration → Option (List ℕ) → Type 0
-MakesOne declaration None = ¬ (IsSmallEnum declaration)
-MakesOne declaration (Some bytes) = IsSmallEnum declaration × Image declaration bytes
+-- the same of sources, whose names are resolved
+pub record Made (sources : List Source) (bytes : List ℕ) : Type 0 where
+  pub resolved : Clear (Names sources)
+  pub made : MadeOf (Declares sources) bytes
 
--- the same for what was placed
-abbrev pub MakesItem : PlacedItem → Option (List ℕ) → Type 0
-MakesItem item None = (declaration : Declaration) → item.item ≡ Done declaration → ¬ (IsSmallEnum declaration)
-MakesItem item (Some bytes) = (declaration : Declaration) × (item.item ≡ Done declaration) × IsSmallEnum declaration × Image declaration bytes
+-- the refusal is the first fault of what is declared
+abbrev pub RefusedOfTypes : List PlacedItem → Stop Entry → Type 0
+RefusedOfTypes items Memory = Unit {0}
+RefusedOfTypes items (Refused e) = FirstOfTypes items e
 
--- the files have no attribute, and one enum that an image is written for was placed
-pub record SmallAlone (files : List File) (placed : List PlacedItem) (declaration : Declaration) : Type 0 where
-  pub bare : IsTrue (list_all (λ f. source_is_bare (source_view f)) files)
-  pub only : IsOnly placed declaration
-  pub small : IsSmallEnum declaration
-
--- its image, or none where there is no such enum
-abbrev pub Makes : List File → List PlacedItem → Option (List ℕ) → Type 0
-Makes files placed None = (declaration : Declaration) → ¬ (SmallAlone files placed declaration)
-Makes files placed (Some bytes) = (declaration : Declaration) × SmallAlone files placed declaration × Image declaration bytes
-
--- the bytes of a vector that may be there
-abbrev pub bytes_of : Option (Vec ℕ Global) → Option (List ℕ)
-bytes_of None = None
-bytes_of (Some bytes) = Some bytes.items
+-- the refusal is the first fault of the set
+abbrev pub RefusedFirst : List Source → Stop Entry → Type 0
+RefusedFirst sources Memory = Unit {0}
+RefusedFirst sources (Refused e) = FirstFault sources e

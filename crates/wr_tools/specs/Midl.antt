@@ -2,9 +2,10 @@
 use Rattle.std.specs.Prelude.{◌≡◌, ◌⊎◌, ℕ, true, false, Some, List, [], ◌∷◌, ◌++◌, codes}
 use Rattle.std.specs.FinMap as map
 use Rattle.ranked.specs.Entries.{Entry}
-use Rattle.ranked.specs.First.{IsFirst, Clear}
+use Rattle.ranked.specs.First.{Clear}
 use Rattle.wr_base.specs.declared.declaration.Declaration.{Declaration}
 use Rattle.wr_outside.specs.Files.{Files}
+use Rattle.midl_names.specs.Declares.{Declares}
 use Rattle.midl_names.specs.Names.{Names}
 use Rattle.source_set.specs.Events.{Event, too_many, missing, too_long, refused, Awaits, FirstEvent, NoEvent}
 use Rattle.source_set.specs.Found.{Read}
@@ -12,7 +13,7 @@ use Rattle.source_set.specs.Lines.{IsRefusalLine}
 use Rattle.wr_tools.specs.Reply.{Reply, refusal, done}
 use Rattle.wr_tools.specs.Command.{Command}
 use Rattle.source_set.specs.Texts.{text_at}
-use Rattle.wr_tools.specs.Sets.{sources_of, IsSmall, Image}
+use Rattle.wr_tools.specs.Sets.{sources_of, FirstFault, Sound, Unbroken, Image}
 
 abbrev pub unmatched : List ℕ
 unmatched = codes "winrt: the words do not match\n"
@@ -40,43 +41,36 @@ pub record FileRefused (words : List (List ℕ)) (files : Files) (reply : Reply)
   pub said : EventLine files name event line
   pub is : reply ≡ refusal (status_of event) line
 
--- each file has a tree, and the first fault of the names phase is refused
-pub record NamesRefused (words : List (List ℕ)) (files : Files) (reply : Reply) : Type 0 where
+-- each file has a tree, and the first fault of the set is refused: names, made names, rules, limits
+pub record SetRefused (words : List (List ℕ)) (files : Files) (reply : Reply) : Type 0 where
   pub reads : List Read
   pub read : NoEvent words files reads
   pub fault : Entry
-  pub first : IsFirst (Names (sources_of reads)) (Some fault)
+  pub first : FirstFault (sources_of reads) fault
   pub line : List ℕ
   pub said : IsRefusalLine (text_at reads fault.file).0 (text_at reads fault.file).1 fault line
   pub is : reply ≡ refusal 1 line
 
--- the first of the words, which there is
-abbrev pub first_word : List (List ℕ) → List ℕ
-first_word [] = []
-first_word (word ∷ words) = word
-
--- each name is resolved, and the set is none that an image is written for so far
-pub record NotYet (words : List (List ℕ)) (files : Files) (reply : Reply) : Type 0 where
-  pub reads : List Read
-  pub read : NoEvent words files reads
-  pub resolved : Clear (Names (sources_of reads))
-  pub none : (declaration : Declaration) → ¬ (IsSmall reads declaration)
-  pub is : reply ≡ refusal 1 (first_word words ++ codes ": NotYet\n")
-
--- the set is one enum, and its image is written
+-- nothing is broken, and an image of the full types is written
 pub record Compiled (out : List ℕ) (words : List (List ℕ)) (files : Files) (reply : Reply) : Type 0 where
   pub reads : List Read
   pub read : NoEvent words files reads
+  pub types : List Declaration
   pub resolved : Clear (Names (sources_of reads))
-  pub declaration : Declaration
-  pub small : IsSmall reads declaration
+  pub sound : Sound (Declares (sources_of reads)) types
   pub bytes : List ℕ
-  pub image : Image declaration bytes
+  pub image : Image types bytes
   pub is : reply ≡ done out bytes
 
--- the order of refusals: file by file, then names, then what is no image yet
+-- the order of refusals: file by file, then what is broken in the set
 abbrev pub MidlReplies : List ℕ → List (List ℕ) → Files → Reply → Type 0
-MidlReplies out words files reply = FileRefused words files reply ⊎ NamesRefused words files reply ⊎ NotYet words files reply ⊎ Compiled out words files reply
+MidlReplies out words files reply = FileRefused words files reply ⊎ SetRefused words files reply ⊎ Compiled out words files reply
+
+-- each file is held within its limit and has a tree, none is the 257th, and nothing is broken
+pub record IsRight (words : List (List ℕ)) (files : Files) : Type 0 where
+  pub reads : List Read
+  pub read : NoEvent words files reads
+  pub unbroken : Unbroken (sources_of reads)
 
 -- `midl -o OUT FILE..` reads the files and what they import, writes OUT and prints nothing.
 abbrev pub midl_command : List ℕ → List (List ℕ) → Command
@@ -84,6 +78,7 @@ midl_command out words = record {
   matched = true;
   replies = MidlReplies out words;
   awaits = λ files name. Awaits words files name;
+  accepts = IsRight words;
   writes = out ∷ [];
   prints = false;
 }
@@ -94,6 +89,7 @@ unmatched_command = record {
   matched = false;
   replies = λ files reply. reply ≡ refusal 2 unmatched;
   awaits = λ files name. ⊥;
+  accepts = λ files. ⊥;
   writes = [];
   prints = false;
 }

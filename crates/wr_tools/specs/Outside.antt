@@ -1,5 +1,6 @@
 -- The store and the sinks as the tool finds and leaves them.
 use Rattle.std.specs.Prelude.{◌≡◌, ℕ, ◌≤◌, Option, List, IfSome}
+use Rattle.wr_outside.specs.Cause.{Rose}
 use Rattle.wr_outside.specs.Files.{Files}
 
 -- what the store and the sinks tell at one moment, and their counts of faults
@@ -16,6 +17,12 @@ pub record CountsRise (before after : Outside) : Type 0 where
   pub store : before.store_faults ≤ after.store_faults
   pub out : before.out_faults ≤ after.out_faults
   pub err : before.err_faults ≤ after.err_faults
+
+-- no count of faults rose
+pub record NoneRose (before after : Outside) : Type 0 where
+  pub store : ¬ (Rose before.store_faults after.store_faults)
+  pub out : ¬ (Rose before.out_faults after.out_faults)
+  pub err : ¬ (Rose before.err_faults after.err_faults)
 
 -- these are the files of the store, as far as it tells them
 abbrev pub MayHold : Option Files → Files → Type 0

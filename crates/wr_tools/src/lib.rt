@@ -2,13 +2,11 @@
 //! when it comes is one record of the call's contract, `Answers`.
 #![tactic(auto)]
 
-mod bare;
-mod made;
 mod midl;
 mod outcome;
 mod said;
 mod say;
-mod small;
+mod set;
 mod tool;
 mod words;
 

@@ -6,12 +6,10 @@ ghost use Rattle.wr_outside.specs.Cause.{Rose};
 ghost use Rattle.source_set.specs.Reads.{sources_in};
 ghost use Rattle.source_set.specs.Stops.{Complete, StopIs};
 ghost use Rattle.source_set.specs.Stops as stops;
-ghost use Rattle.wr_tools.specs.Midl.{first_word};
 ghost use Rattle.wr_tools.specs.Outcomes.{OutcomeIs, IsReadFault};
 
-use crate::made::image_of_set;
 use crate::said::Said;
-use midl_names::resolve;
+use crate::set::image_of_set;
 use source_set::{SourceSet, SourceStop, refusal_line, sources};
 use std::alloc::{AllocError, Global};
 use wr_base::{Memory, Stop};
@@ -26,16 +24,6 @@ pub(crate) enum Outcome {
     ReadFault(String),
     /// The image's bytes.
     Image(Vec<u8>),
-}
-
-/// The first of the words.
-fn first_of(words: &[String]) -> &str
-    ensures { result.now ≡ first_word (map string_bytes words.now) }
-{
-    match words {
-        [] => "",
-        [word, ..] => word.as_str(),
-    }
 }
 
 /// What a set comes to that isn't read whole.
@@ -56,22 +44,19 @@ fn stopped(alloc: Global, stop: SourceStop) -> Result<Outcome, Memory>
     }
 }
 
-/// What a set comes to whose files have trees; its first file has this name.
-fn resolved(alloc: Global, first: &str, set: &SourceSet) -> Result<Outcome, Memory>
+/// What a set comes to whose files have trees.
+fn resolved(alloc: Global, set: &SourceSet) -> Result<Outcome, Memory>
     requires { length set.now.texts.items ≡ length set.now.files.items }
-    ensures is { (words : List (List ℕ)) (held : Option Files) → Complete words held (sources_in set.now) → first.now ≡ first_word words → IfOk result (OutcomeIs words held) }
+    ensures is { (words : List (List ℕ)) (held : Option Files) → Complete words held (sources_in set.now) → IfOk result (OutcomeIs words held) }
     ensures fault { IfOk result (λ outcome. ¬ (IsReadFault outcome)) }
 {
-    match resolve(alloc, &set.files) {
+    match image_of_set(alloc, &set.files) {
+        Ok(image) => Ok(Outcome::Image(image)),
         Err(Stop::Refused(refusal)) => {
             let line = set.line_of(alloc, &refusal)?;
             Ok(Outcome::Refused(Said::Refused, line))
         }
         Err(Stop::Memory) => Err(AllocError),
-        Ok(placed) => match image_of_set(alloc, &set.files, placed.as_slice())? {
-            Some(image) => Ok(Outcome::Image(image)),
-            None => Ok(Outcome::Refused(Said::NotYet, String::from_str(alloc, first)?)),
-        },
     }
 }
 
@@ -87,7 +72,7 @@ pub(crate) fn compiled<S: Store>(
     ensures rose { IfOk result (λ outcome. IsReadFault outcome → Rose (S.faults store.old) (S.faults store.new)) }
 {
     match sources(alloc, store, words) {
-        Ok(set) => resolved(alloc, first_of(words), &set),
+        Ok(set) => resolved(alloc, &set),
         Err(stop) => stopped(alloc, stop),
     }
 }

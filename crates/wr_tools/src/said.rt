@@ -8,8 +8,6 @@ ghost use Rattle.wr_tools.specs.Said.{status_said, text_said};
 pub(crate) enum Said {
     /// Content is refused; the name is the line of the refusal.
     Refused,
-    /// An image of the set is not written so far.
-    NotYet,
     /// The words are those of no command.
     Unmatched,
     /// The file is the 257th.
@@ -31,7 +29,6 @@ impl Said {
     {
         match self {
             Said::Refused => 1,
-            Said::NotYet => 1,
             Said::Unmatched => 2,
             Said::TooMany => 3,
             Said::Missing => 3,
@@ -47,7 +44,6 @@ impl Said {
     {
         match self {
             Said::Refused => "",
-            Said::NotYet => ": NotYet\n",
             Said::Unmatched => "winrt: the words do not match\n",
             Said::TooMany => ": TooMany\n",
             Said::Missing => ": Missing\n",

@@ -1,4 +1,4 @@
-use Rattle.std.proofs.Common.{◌≡◌, ◌++◌, subst, sym, inl, ◌∙◌, ap, refl, Err, map, string_bytes, arith, List, [], ℕ}
+use Rattle.std.proofs.Common.{◌≡◌, ◌++◌, subst, sym, inl, ◌∙◌, ap, refl, Err, map, string_bytes, arith, List, ℕ}
 use Rattle.wr_outside.specs.Files.{with_file, WritesSome}
 use Rattle.wr_tools.specs.declared.said.Said.{Said}
 use Rattle.wr_tools.specs.Said.{status_said, text_said}
@@ -7,6 +7,7 @@ use Rattle.wr_tools.specs.Outcomes.{OutcomeIs, IsReadFault, RefusalOwed, ReadFau
 use Rattle.wr_tools.specs.Reply.{done}
 use Rattle.wr_tools.specs.Says.{Says}
 use Rattle.wr_tools.proofs.SayLemmas.{rose_later, grows}
+use Rattle.wr_tools.proofs.SetLemmas.{midl_settled}
 use Rattle.wr_tools.proofs.EndLemmas.{refuses, read_fails, write_fails, finished, stopped, no_memory}
 use Rattle.wr_tools.proofs.midl.midl.Goals as goal
 
@@ -18,7 +19,7 @@ returns-in-Ok-Refused g c =
     let owed : RefusalOwed words (g.S.Store.held c.args.store.now) (status_said said) line =
     subst (OutcomeIs words (g.S.Store.held c.args.store.now)) c.in-Ok-Refused.field-0-is c.in-Ok-Refused.ensures.is in
     let whole : c.as_str.result.now ++ text_said said ≡ line = ap (λ t. t ++ text_said said) c.as_str.ensures.value in
-    refuses _ _ _ (status_said said) c.say.result line owed.low owed.high (λ e. absurd (owed.matched e)) (λ e. cc)
+    refuses _ _ _ (status_said said) c.say.result line (midl_settled c.args.image.now words) owed.low owed.high (λ e. absurd (owed.matched e)) (λ e. cc)
     (owed.owed c.args.image.now) c.in-Ok-Refused.ensures.kept refl
     (record { store = c.in-Ok-Refused.ensures.later; out = omega arith; err = c.say.ensures.later })
     (subst (λ l. Says (g.E.Sink.told c.args.err.now) (g.E.Sink.told c.say.new.err) (g.E.Sink.faults c.args.err.now) (g.E.Sink.faults c.say.new.err) (status_said said) l c.say.result) whole c.say.ensures.says)
