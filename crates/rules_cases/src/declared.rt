@@ -1,6 +1,7 @@
 //! Declarations as cases spell them: `enum NAME`, `flags NAME`, `struct NAME USE ..`, `delegate NAME ID`, `interface NAME ID USE ..` with what it requires, and `class NAME
 //! USE ..` with its list, the first of which is its default.
 
+use crate::further::further;
 use crate::type_uses::uses_of;
 use sqlite_items::Items;
 use std::alloc::{AllocError, Global};
@@ -32,7 +33,8 @@ fn structure(alloc: Global, name: FullName, text: &str) -> Result<Declaration, A
     })
 }
 
-fn id_of(text: &str) -> u128 {
+/// The identifier of hexadecimal digits.
+pub fn id_of(text: &str) -> u128 {
     u128::from_str_radix(text, 16).unwrap_or(0)
 }
 
@@ -60,7 +62,8 @@ fn interface(alloc: Global, name: FullName, text: &str) -> Result<Declaration, A
     })
 }
 
-fn first_of(alloc: Global, text: &str) -> Result<Option<TypeUse>, AllocError> {
+/// The first use that a text spells.
+pub fn first_of(alloc: Global, text: &str) -> Result<Option<TypeUse>, AllocError> {
     match uses_of(alloc, text)?.first() {
         None => Ok(None),
         Some(first) => Ok(Some(first.clone()?)),
@@ -80,7 +83,7 @@ fn class(alloc: Global, name: FullName, text: &str) -> Result<Declaration, Alloc
     })
 }
 
-/// The declaration of a kind, a name and the rest of the case; a class of any other kind.
+/// The declaration of a kind, a name and the rest of the case.
 pub fn declaration(
     alloc: Global,
     kind: &str,
@@ -93,6 +96,7 @@ pub fn declaration(
         "struct" => structure(alloc, name, rest),
         "delegate" => Ok(delegate(alloc, name, rest)),
         "interface" => interface(alloc, name, rest),
-        _ => class(alloc, name, rest),
+        "class" => class(alloc, name, rest),
+        kind => further(alloc, kind, name, rest),
     }
 }

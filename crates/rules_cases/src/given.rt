@@ -2,6 +2,7 @@
 
 use crate::declared::declaration;
 use crate::type_uses::full_name;
+use case_text::bytes_of;
 use std::alloc::{AllocError, Global};
 use wr_base::{Declaration, FullName, Stop, Types};
 
@@ -55,6 +56,12 @@ pub fn set(alloc: Global, given: &mut Given) -> Result<String, AllocError> {
     set_to(alloc, given, list)
 }
 
+// A name may be spelled by bytes: `COUNT*TEXT` between grave accents.
+fn spelled_name(alloc: Global, word: &str) -> Result<Option<FullName>, AllocError> {
+    let bytes = bytes_of(alloc, word)?;
+    full_name(alloc, std::str::from_utf8(&bytes).unwrap_or("?"))
+}
+
 /// Declares a type of this kind, and prints its name.
 pub fn declare(
     alloc: Global,
@@ -63,7 +70,7 @@ pub fn declare(
     case: &str,
 ) -> Result<String, AllocError> {
     let (word, rest) = case.split_once(' ').unwrap_or((case, ""));
-    match full_name(alloc, word)? {
+    match spelled_name(alloc, word)? {
         None => String::from_str(alloc, "no name"),
         Some(name) => {
             given.list.push(declaration(alloc, kind, name, rest)?)?;

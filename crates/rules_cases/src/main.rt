@@ -1,7 +1,9 @@
-//! Prints what signatures, identifiers and closed lists are, to each line of the standard input. A line that begins with `#` is printed as it is.
+//! Prints what signatures, identifiers and closed lists are, and what is broken in a set, to each line of the standard input. A line that begins with `#` is printed as it is.
 #![tactic(auto)]
 
+mod broken;
 mod declared;
+mod further;
 mod given;
 mod ids;
 mod lists;
@@ -24,6 +26,8 @@ fn answer_of(
         "ids" => ids::ids(alloc, &given.types),
         "named" => ids::names(alloc, case),
         "chain" => ids::chain(alloc, decimal(case)),
+        "broken" => broken::broken(alloc, take(alloc, given)),
+        "many" => broken::many(alloc, given, case),
         "closed" => lists::closed(alloc, take(alloc, given)),
         kind => declare(alloc, given, kind, case),
     }
