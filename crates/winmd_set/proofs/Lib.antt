@@ -1,0 +1,4 @@
+pub mod CapLaws
+pub mod CountLaws
+pub mod StepLaws
+pub mod OrderLaws

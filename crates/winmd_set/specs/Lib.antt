@@ -1,0 +1,4 @@
+pub mod Stated
+pub mod Counts
+pub mod Steps
+pub mod Order
