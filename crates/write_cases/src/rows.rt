@@ -86,30 +86,37 @@ fn push_tables(out: &mut String, image: &Image<'_>, which: Which) -> Result<(), 
 
 fn push_view(
     out: &mut String,
-    streams: &Streams<'_>,
     view: &TableView,
+    stream: &[u8],
+    at: u64,
+    texts: &[u8],
+    blobs: &[u8],
     which: Which,
 ) -> Result<(), AllocError>
-    requires { (table : tables.Table) → rows_of view.now table ≡ raw streams.entry.tables.bytes.now table }
+    requires { (table : tables.Table) → rows_of view.now table ≡ raw stream.now table }
 {
-    if streams.tables.offset >= 1 << 60 {
+    if at >= 1 << 60 {
         return Ok(());
     }
-    let places = places_of(*out.allocator(), streams.tables.bytes)?;
-    let image = Image::new(
-        view,
-        streams.tables.bytes,
-        streams.tables.offset,
-        streams.texts.bytes,
-        streams.blobs.bytes,
-        &places,
-    );
+    let places = places_of(*out.allocator(), stream)?;
+    let image = Image::new(view, stream, at, texts, blobs, &places);
     push_tables(out, &image, which)
 }
 
 fn push_streams(out: &mut String, streams: &Streams<'_>, which: Which) -> Result<(), AllocError> {
-    match read_tables(*out.allocator(), streams.tables.bytes) {
-        Ok(view) => push_view(out, streams, &view, which),
+    let stream = streams.tables.bytes;
+    let texts = streams.texts.bytes;
+    let blobs = streams.blobs.bytes;
+    match read_tables(*out.allocator(), stream) {
+        Ok(view) => push_view(
+            out,
+            &view,
+            stream,
+            streams.tables.offset,
+            texts,
+            blobs,
+            which,
+        ),
         Err(_) => out.push_str("no rows"),
     }
 }
