@@ -7,7 +7,8 @@ use class_synthesis::full;
 use std::alloc::{AllocError, Global};
 use wr_base::PlacedTypes;
 
-fn types_of(alloc: Global, case: &str) -> Answer<PlacedTypes> {
+/// The full types of files.
+pub fn types_of(alloc: Global, case: &str) -> Answer<PlacedTypes> {
     full(alloc, &declared_by(alloc, case)?)
 }
 

@@ -1,7 +1,8 @@
-//! Prints what the front half of the toolchain answers to each line of the standard input: tokens, trees, names and full types. `docs/CONTRIBUTING.md` says how a case is
+//! Prints what the front half of the toolchain answers to each line of the standard input: tokens, trees, names, full types and what is broken in them. `docs/CONTRIBUTING.md` says how a case is
 //! spelled.
 #![tactic(auto)]
 
+mod faults;
 mod full;
 mod full_text;
 mod lexing;
@@ -23,6 +24,7 @@ fn answer_of(out: &mut String, command: &str, case: &str) -> Result<(), AllocErr
         "ids" => trees::ids(out, case),
         "names" => names::names(out, case),
         "full" => full::full_types(out, case),
+        "check" => faults::check(out, case),
         _ => out.push_str("no such command"),
     }
 }
