@@ -120,6 +120,19 @@ module _ (owned : List (List ℕ)) (floor : ℕ) (list : List ℕ) (i a : ℕ) (
     told = (λ h. ⊎_elim (λ t. shared_on (g.told.0 t)) (λ t. shared_now (m.0 t)) (b.0 h), λ s. b.1 (⊎_elim (λ t. inl (g.told.1 t)) (λ t. inr (m.1 t)) (shared_back s)));
   }
 
+-- where none was found before, what is told is what this one says
+pub only_now : (met : Bool) → IsTrue met ↔ (IsTrue false ⊎ IsTrue met)
+only_now met = (λ h. inr h, λ s. ⊎_elim (λ f. cc) (λ h. h) s)
+
+in_take : (i : ℕ) (xs : List ℕ) (a : ℕ) → In a (take i xs) → In a xs
+in_take zero xs a h = absurd h
+in_take (suc i) [] a h = absurd h
+in_take (suc i) (x ∷ xs) a h = ⊎_elim (λ q. inl q) (λ t. inr (in_take i xs a t)) h
+
+-- what the first of a set share, the set shares
+pub shared_whole : (owned : List (List ℕ)) (set : List ℕ) (i : ℕ) → Shared owned (take i set) → Shared owned set
+shared_whole owned set i s = record { a = s.a; b = s.b; first = in_take i set s.a s.first; second = in_take i set s.b s.second; apart = s.apart; thing = s.thing; of_first = s.of_first; of_second = s.of_second }
+
 -- past the end nothing is owned
 pub owned_within : (owned : List (List ℕ)) (a x : ℕ) → In x (steps_of owned a) → a < length owned
 owned_within [] a x h = absurd h
