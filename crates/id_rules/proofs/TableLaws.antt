@@ -13,9 +13,9 @@ use Rattle.wr_base.specs.declared.type_use.Base.{Base}
 use Rattle.wr_base.specs.declared.type_use.TypeUse.{TypeUse}
 use Rattle.wr_base.specs.declared.type_use.TypeUse.TheViews.{Inst}
 use Rattle.wr_base.specs.declared.type_use.TypeUse.TheVariants.{Plain, Value, Reference}
-use Rattle.wr_base.specs.Trees.{UseTree, plain, value, reference, instance, uses_of, within, among, tree_of, text_of_tree}
+use Rattle.wr_base.specs.Trees.{UseTree, instance, uses_of, within, among, tree_of, text_of_tree}
 use Rattle.wr_base.proofs.TreeLaws.{tree_Plain, tree_Value, tree_Reference, tree_Inst}
-use Rattle.wr_rules.specs.Signatures.{id_of, signature_text, version_5, instances_space}
+use Rattle.wr_rules.specs.Signatures.{id_of}
 use Rattle.wr_rules.specs.NameRules.{is_instance, first_of}
 use Rattle.id_rules.specs.Table.{first_id, instances_within, Adds}
 
@@ -148,22 +148,3 @@ inst_within u name arguments e =
 
 pub inst_is : (u : TypeUse) (name : List ℕ) (arguments : List TypeUse) → u ≡ Inst name arguments → is_instance (tree_of u) ≡ true
 inst_is u name arguments e = ap is_instance (ap tree_of e ∙ tree_Inst name arguments)
-
-mapped_some : {X Y : Type 0} (f : X → Y) (o : Option X) → is_some (option_map f o) ≡ is_some o
-mapped_some f None = refl
-mapped_some f (Some x) = refl
-
--- an instance has an id exactly where it has a signature
-pub id_is : (types : List Declaration) (u : UseTree) → is_instance u ≡ true → is_some (id_of types u) ≡ is_some (signature_text types u)
-id_is types (plain base) h = cc
-id_is types (value name) h = cc
-id_is types (reference name) h = cc
-id_is types (instance name us) h = mapped_some (version_5 instances_space) (signature_text types (instance name us))
-
--- and none where it has none
-pub id_none : (types : List Declaration) (u : UseTree) → is_instance u ≡ true → is_some (signature_text types u) ≡ false → None ≡ id_of types u
-id_none types u h n = sym (not_there (id_of types u) (id_is types u h ∙ n))
-  where
-    not_there : {X : Type 0} (o : Option X) → is_some o ≡ false → o ≡ None
-    not_there None e = refl
-    not_there (Some x) e = cc

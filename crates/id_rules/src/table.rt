@@ -5,11 +5,10 @@ ghost use Rattle.std.specs.Option.{is_some};
 ghost use Rattle.std.specs.BTreeMap.{Updates, get_by_text};
 ghost use Rattle.std.specs.String.{string_cmp};
 ghost use Rattle.wr_base.specs.Trees.{tree_of};
-ghost use Rattle.wr_rules.specs.Signatures.{id_of};
 ghost use Rattle.wr_rules.specs.NameRules.{is_instance};
 ghost use Rattle.id_rules.specs.Table.{Adds};
 
-use pinterface_id::{has_signature, id_of};
+use pinterface_id::find_id;
 use std::alloc::{AllocError, Global};
 use std::collections::BTreeMap;
 use wr_base::{TypeUse, Types};
@@ -43,20 +42,6 @@ fn knows(table: &BTreeMap<String, Option<u128>>, text: &str) -> bool
     }
 }
 
-// The id of an instance, where it has a signature.
-fn instance_id(alloc: Global, types: &Types, ty: &TypeUse) -> Result<Option<u128>, AllocError>
-    requires { IsTrue (is_instance (tree_of ty.now)) }
-    ensures { IfOk result (λ id. id ≡ id_of types.now (tree_of ty.now)) }
-{
-    let signed = has_signature(alloc, types, ty)?;
-    if signed {
-        let id = id_of(alloc, types, ty)?;
-        Ok(Some(id))
-    } else {
-        Ok(None)
-    }
-}
-
 /// Puts the id of an instance under its text, where that isn't in the table.
 pub(crate) fn add_instance(
     alloc: Global,
@@ -71,6 +56,6 @@ pub(crate) fn add_instance(
     if knows(table, text.as_str()) {
         return Ok(());
     }
-    let id = instance_id(alloc, types, ty)?;
+    let id = find_id(alloc, types, ty)?;
     put(table, text, id)
 }

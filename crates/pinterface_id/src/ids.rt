@@ -76,11 +76,7 @@ pub(crate) fn name_id(types: &Types, name: &FullName) -> Option<u128>
 }
 
 /// The id of an interface, a delegate or an instance, where it has one.
-pub(crate) fn find_id(
-    alloc: Global,
-    types: &Types,
-    ty: &TypeUse,
-) -> Result<Option<u128>, AllocError>
+pub fn find_id(alloc: Global, types: &Types, ty: &TypeUse) -> Result<Option<u128>, AllocError>
     ensures { IfOk result (λ id. id ≡ id_of types.now (tree_of ty.now)) }
 {
     match ty {

@@ -9,7 +9,7 @@ mod pieces;
 mod stack;
 mod walk;
 
-pub use ids::{has_signature, id_of, named_id, signature_of};
+pub use ids::{find_id, has_signature, id_of, named_id, signature_of};
 pub use listing::ids_of;
 pub use meaning::{Meaning, meaning_of, named};
 pub use walk::signature;
