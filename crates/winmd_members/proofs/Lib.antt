@@ -1,0 +1,4 @@
+pub mod ItemLaws
+pub mod EarlierLaws
+pub mod MemberLaws
+pub mod MethodLaws
