@@ -1,6 +1,7 @@
 //! Rules on what interfaces require, what classes have, and structs within structs, over a whole set.
 #![tactic(auto)]
 
+mod closed;
 mod graph;
 mod names;
 mod open;

@@ -1,11 +1,11 @@
 -- One stamp more, and one owner more.
-use Rattle.std.proofs.Common.{◌≡◌, ◌≢◌, ◌<◌, ◌≤◌, ◌+◌, ◌^◌, ◌↔◌, ℕ, zero, suc, Bool, false, IsTrue, List, [], ◌∷◌, ◌⊎◌, inl, inr, ⊎_elim, sym, ap, subst, ◌∙◌, arith, take, set, get_or, length, true≢false}
+use Rattle.std.proofs.Common.{◌≡◌, ◌≢◌, ◌<◌, ◌≤◌, ◌+◌, ◌^◌, ◌↔◌, ℕ, zero, suc, Bool, false, IsTrue, List, [], ◌∷◌, ◌⊎◌, inl, inr, ⊎_elim, refl, sym, ap, subst, ◌∙◌, arith, take, set, get_or, length, true≢false}
 use Rattle.std.proofs.lemmas.List.{get_or-set_same, get_or-set_other}
 use Rattle.chains.specs.Graphs.{In, steps_of}
 use Rattle.chains.proofs.Members.{is_in}
-use Rattle.chains.proofs.Marking.{same_or_not, next_in, still_in, now_in}
+use Rattle.chains.proofs.Marking.{same_or_not, next_in, still_in, now_in, In-get_or}
 use Rattle.stamps.specs.Shared.{stamp_in, Stamped, Shared}
-use Rattle.stamps.specs.Within.{Outside, LeadsOut}
+use Rattle.stamps.specs.Within.{Lower, LeadsOut, Raised}
 
 module _ (stamps now first : List ℕ) (list : List ℕ) (i x m : ℕ) (l : i < length list) (e : x ≡ get_or list i 0) (within : x < length stamps) (is : now ≡ set stamps x m) where
   pub here_more : ((a : ℕ) → In a (take i list) → stamp_in stamps a ≡ m) → (a : ℕ) → In a (take (i + 1) list) → stamp_in now a ≡ m
@@ -139,31 +139,72 @@ owned_within [] a x h = absurd h
 owned_within (s ∷ ss) zero x h = omega arith
 owned_within (s ∷ ss) (suc a) x h = let l = owned_within ss a x h in omega (arith, l)
 
--- one of the list has another stamp
+high_or_not : (m n : ℕ) → (m ≤ n) ⊎ (n < m)
+high_or_not m n = grind arith
+
+-- none of the list has a lower stamp
 module _ (stamps : List ℕ) (mine : ℕ) (list : List ℕ) (i x : ℕ) (l : i < length list) (e : x ≡ get_or list i 0) where
-  pub same_more : stamp_in stamps x ≡ mine → ((a : ℕ) → In a (take i list) → stamp_in stamps a ≡ mine) → (a : ℕ) → In a (take (i + 1) list) → stamp_in stamps a ≡ mine
-  same_more s h a t = ⊎_elim (λ y. h a y) (λ q. subst (λ y. stamp_in stamps y ≡ mine) q s) (next_in list i x a l e t)
+  pub high_more : mine ≤ stamp_in stamps x → ((a : ℕ) → In a (take i list) → mine ≤ stamp_in stamps a) → (a : ℕ) → In a (take (i + 1) list) → mine ≤ stamp_in stamps a
+  high_more s h a t = ⊎_elim (λ y. h a y) (λ q. subst (λ y. mine ≤ stamp_in stamps y) q s) (next_in list i x a l e t)
 
--- what stands in a set whose stamps are new
-module _ (graph : List (List ℕ)) (set : List ℕ) (mine : ℕ) (old new : List ℕ)
-    (here : (x : ℕ) → In x set → stamp_in new x ≡ mine) (there : (x : ℕ) → (In x set → ⊥) → stamp_in new x ≡ stamp_in old x) (lower : (x : ℕ) → stamp_in old x < mine) where
-  pub lacked : (x : ℕ) → stamp_in new x ≢ mine → In x set → ⊥
-  lacked x n h = n (here x h)
+pub none_lower : (stamps : List ℕ) (mine : ℕ) (list : List ℕ) (found : Bool) → found ≡ false → IsTrue found ↔ Lower stamps mine list → (y : ℕ) → In y list → mine ≤ stamp_in stamps y
+none_lower stamps mine list found e b y h = ⊎_elim (λ q. q) (λ n. absurd (true≢false (sym (b.1 (record { x = y; of_list = h; below = n })) ∙ e))) (high_or_not mine (stamp_in stamps y))
 
-  pub had : (x : ℕ) → stamp_in new x ≡ mine → In x set
-  had x e = ⊎_elim (λ h. h) (λ n. (let t = there x n in let w = lower x in absurd (omega (arith, t, w, e)))) (is_in x set)
+-- ---- stamps that are raised
+module _ (graph : List (List ℕ)) (mine : ℕ) where
+  pub raised_none : (s : List ℕ) → Raised graph mine s s
+  raised_none s y = inl refl
 
-  pub upto_mine : (x : ℕ) → stamp_in new x ≤ mine
-  upto_mine x = ⊎_elim (λ h. (let t = here x h in omega (arith, t))) (λ n. (let t = there x n in let w = lower x in omega (arith, t, w))) (is_in x set)
+  pub raised_high : (s t : List ℕ) → Raised graph mine s t → (y : ℕ) → mine ≤ stamp_in s y → mine ≤ stamp_in t y
+  raised_high s t r y h = ⊎_elim (λ q. omega (arith, q, h)) (λ p. (let q = p.1 in omega (arith, q))) (r y)
 
-  pub none_out : ((a x : ℕ) → In a set → In x (steps_of graph a) → stamp_in new x ≡ mine) → LeadsOut graph set → ⊥
-  none_out h o = o.lacks (had o.b (h o.a o.b o.from o.step))
+  pub raised_back : (s t : List ℕ) → Raised graph mine s t → (y : ℕ) → mine ≤ stamp_in t y → mine ≤ stamp_in s y
+  raised_back s t r y h = ⊎_elim (λ q. omega (arith, q, h)) (λ p. p.0) (r y)
 
--- the first so many lead to what is stamped
-pub out_more : (graph : List (List ℕ)) (stamps : List ℕ) (mine : ℕ) (list : List ℕ) (i x : ℕ) → i < length list → x ≡ get_or list i 0
-    → ((y : ℕ) → In y (steps_of graph x) → stamp_in stamps y ≡ mine) → ((a y : ℕ) → In a (take i list) → In y (steps_of graph a) → stamp_in stamps y ≡ mine)
-    → (a y : ℕ) → In a (take (i + 1) list) → In y (steps_of graph a) → stamp_in stamps y ≡ mine
-out_more graph stamps mine list i x l e now before a y t s = ⊎_elim (λ h. before a y h s) (λ q. now y (subst (λ z. In y (steps_of graph z)) (sym q) s)) (next_in list i x a l e t)
+  pub raised_then : (s t u : List ℕ) → Raised graph mine s t → Raised graph mine t u → Raised graph mine s u
+  raised_then s t u a b y = ⊎_elim
+      (λ q. ⊎_elim (λ p. inl (q ∙ p)) (λ p. inr (p.0, q ∙ p.1, p.2)) (a y))
+      (λ q. inr (raised_back s t a y q.0, q.1, λ z h. raised_back s t a z (q.2 z h)))
+      (b y)
 
-pub none_outside : (stamps : List ℕ) (mine : ℕ) (list : List ℕ) (found : Bool) → found ≡ false → IsTrue found ↔ Outside stamps mine list → (y : ℕ) → In y list → stamp_in stamps y ≡ mine
-none_outside stamps mine list found e b y h = ⊎_elim (λ q. q) (λ n. absurd (true≢false (sym (b.1 (record { x = y; of_list = h; other = n })) ∙ e))) (same_or_not (stamp_in stamps y) mine)
+  -- what a closed list has is raised
+  pub raised_row : (s t : List ℕ) (a : ℕ) → ((y : ℕ) → In y (steps_of graph a) → mine ≤ stamp_in s y) → (LeadsOut graph (steps_of graph a) → ⊥)
+      → ((y : ℕ) → In y (steps_of graph a) → stamp_in t y ≡ mine + 1) → ((y : ℕ) → (In y (steps_of graph a) → ⊥) → stamp_in t y ≡ stamp_in s y) → Raised graph mine s t
+  raised_row s t a high closed here there y = ⊎_elim
+      (λ h. inr (high y h, here y h, λ z k. ⊎_elim (λ m. high z m) (λ n. absurd (closed (record { a = y; b = z; from = h; step = k; lacks = n }))) (is_in z (steps_of graph a))))
+      (λ n. inl (there y n))
+      (is_in y (steps_of graph a))
+
+-- ---- a set of which each number has the stamp
+module _ (graph : List (List ℕ)) (mine : ℕ) (set : List ℕ) (first : List ℕ)
+    (here : (x : ℕ) → In x set → stamp_in first x ≡ mine) (there : (x : ℕ) → (In x set → ⊥) → stamp_in first x < mine) where
+  has_stamp : (x : ℕ) → mine ≤ stamp_in first x → In x set
+  has_stamp x h = ⊎_elim (λ m. m) (λ n. (let t = there x n in absurd (omega (arith, t, h)))) (is_in x set)
+
+  pub raised_upto : (s : List ℕ) → Raised graph mine first s → (x : ℕ) → stamp_in s x ≤ mine + 1
+  raised_upto s r x = ⊎_elim
+      (λ q. ⊎_elim (λ m. (let t = here x m in omega (arith, q, t))) (λ n. (let t = there x n in omega (arith, q, t))) (is_in x set))
+      (λ p. (let q = p.1 in omega (arith, q))) (r x)
+
+  module _ (s : List ℕ) (r : Raised graph mine first s) (i a : ℕ) (l : i < length set) (e : a ≡ get_or set i 0) where
+    pub out_now : Lower s mine (steps_of graph a) → LeadsOut graph set
+    out_now o = record {
+      a = a;
+      b = o.x;
+      from = subst (λ y. In y set) (sym e) (In-get_or set i l);
+      step = o.of_list;
+      lacks = λ m. (let t = here o.x m in let k = raised_high graph mine first s r o.x (omega (arith, t)) in let b = o.below in omega (arith, k, b));
+    }
+
+    -- a number whose stamp is raised was looked at
+    leads_in : (stamp_in s a ≡ mine → (y : ℕ) → In y (steps_of graph a) → mine ≤ stamp_in s y) → (y : ℕ) → In y (steps_of graph a) → In y set
+    leads_in k y h = ⊎_elim
+        (λ q. has_stamp y (raised_back graph mine first s r y (k (q ∙ here a (subst (λ z. In z set) (sym e) (In-get_or set i l))) y h)))
+        (λ p. has_stamp y (p.2 y h)) (r a)
+
+    pub in_more : (stamp_in s a ≡ mine → (y : ℕ) → In y (steps_of graph a) → mine ≤ stamp_in s y) → ((x y : ℕ) → In x (take i set) → In y (steps_of graph x) → In y set)
+        → (x y : ℕ) → In x (take (i + 1) set) → In y (steps_of graph x) → In y set
+    in_more k before x y t h = ⊎_elim (λ m. before x y m h) (λ q. leads_in k y (subst (λ z. In y (steps_of graph z)) (sym q) h)) (next_in set i a x l e t)
+
+pub none_out : (graph : List (List ℕ)) (set : List ℕ) → ((x y : ℕ) → In x set → In y (steps_of graph x) → In y set) → LeadsOut graph set → ⊥
+none_out graph set h o = o.lacks (h o.a o.b o.from o.step)

@@ -1,4 +1,6 @@
-use Rattle.std.proofs.Common.{length}
+use Rattle.std.proofs.Common.{ℕ, length, ap, arith}
+use Rattle.std.specs.Global.{Vec}
+use Rattle.std.proofs.lemmas.List.{length-map}
 use Rattle.chains.specs.Groups.{graph_of}
 use Rattle.wr_base.specs.declared.declaration.Declaration.{Declaration}
 use Rattle.wr_rules.specs.ListRules.{lacks, listed_in}
@@ -6,6 +8,13 @@ use Rattle.list_rules.specs.Open.{TellOpen, TellCyclic, FlagsAre, lists_itself}
 use Rattle.list_rules.proofs.TwiceLaws.{if_ok_then}
 use Rattle.list_rules.proofs.FlagLaws.{fewer, rows_below, sets_below, open_told, cyclic_told}
 use Rattle.list_rules.proofs.open.list_flags.Goals as goal
+
+pub tell-requires-clause-few : goal.tell-requires-clause-few
+tell-requires-clause-few c =
+    let w = c.in_ok-graph.ensures.size in
+    let m = length-map c.in_ok-graph.graph.items (λ (v : Vec ℕ). v.items) in
+    let q = ap length c.as_slice.ensures.value in
+    omega (arith, w, m, q)
 
 pub tell-requires-clause-size : goal.tell-requires-clause-size
 tell-requires-clause-size c =

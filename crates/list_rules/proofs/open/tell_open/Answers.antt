@@ -22,7 +22,7 @@ pub loop-i-preserved : goal.loop-i-preserved
 loop-i-preserved c = record {
   told = tells_more (λ k. LeadsOut (graph_of c.args.graph.now) (steps_of (graph_of c.args.sets.now) k)) c.loop-i.i c.loop-i.on.items c.push.new.self.items c.leads_out-told.result c.loop-i.invariant.told c.in_ok-push.ensures.items
       (subst (λ (s : List ℕ). IsTrue c.leads_out-told.result ↔ LeadsOut (graph_of c.args.graph.now) s) c.row_at.ensures c.leads_out-told.ensures.out);
-  upto = c.leads_out-told.ensures.upto;
+  upto = λ x. (let u = c.leads_out-told.ensures.upto x in omega (arith, u));
 }
 
 pub returns : goal.returns
