@@ -1,3 +1,4 @@
 pub mod HeapLaws
 pub mod CellLaws
 pub mod LineLaws
+pub mod TightLaws

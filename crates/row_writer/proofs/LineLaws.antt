@@ -43,7 +43,7 @@ abbrev Raws : Type 0
 Raws = Table → List (List ℕ)
 
 -- how many rows there are is seen as well
-counts_seen : (texts blobs : Heap) (raws : Raws) → counts raws ≡ counts (rows_seen texts blobs raws)
+pub counts_seen : (texts blobs : Heap) (raws : Raws) → counts raws ≡ counts (rows_seen texts blobs raws)
 counts_seen texts blobs raws = λ i. λ t. sym (length-map (raws t) (values_at texts blobs (columns_of t))) i
 
 module _ (texts blobs texts2 blobs2 : Heap) (gt : Keeps texts texts2) (gb : Keeps blobs blobs2) (each : EachStands BlobHere blobs2) (old new : Raws) (known : (t : Table) → all_known texts blobs old t ≡ true)

@@ -1,12 +1,16 @@
 //! The cells of a line as numbers.
 
 ghost use Rattle.std.specs.Prelude.{◌≡◌, ◌<◌, ◌^◌, IsTrue, true, length, map, IfOk};
-ghost use Rattle.md_heaps.specs.Blobs.{BlobHere};
+ghost use Rattle.std.specs.List.{Contains};
+ghost use Rattle.md_heaps.specs.Blobs.{BlobHere, blob_bytes};
 ghost use Rattle.md_heaps.specs.Heaps.{EachStands, Keeps};
 ghost use Rattle.md_schema.specs.declared.table.Table.{Table};
+ghost use Rattle.md_heaps.specs.Texts.{text_bytes};
 ghost use Rattle.md_tables.specs.Rows.{rows_in};
 ghost use Rattle.row_writer.specs.Known.{Says, value_at, cell_known};
 ghost use Rattle.row_writer.specs.Lines.{cell_fits, cells_fit, counts, value_of};
+ghost use Rattle.row_writer.specs.Tight.{Grew};
+ghost use Rattle.winmd_rows.specs.Values.{Text, Blob};
 
 use crate::cell::Cell;
 use crate::heaps::{intern_blob, intern_text};
@@ -18,7 +22,7 @@ use ranked::Memory;
 use std::alloc::Global;
 
 /// The number of a cell.
-#[tactic(auto, using(md_heaps::proofs::HeapLaws::keeps_same))]
+#[tactic(auto, using(md_heaps::proofs::HeapLaws::keeps_same, crate::proofs::TightLaws::grew_same))]
 pub fn number(
     texts: &mut TextHeap,
     blobs: &mut BlobHeap,
@@ -32,6 +36,8 @@ pub fn number(
     ensures standing { EachStands BlobHere blobs.new }
     ensures texts { Keeps texts.old texts.new }
     ensures blobs { Keeps blobs.old blobs.new }
+    ensures grew_texts { IfOk result (λ n. Grew text_bytes (λ content. value_of (counts (rows_in set.now)) cell.entry ≡ Text content) texts.old texts.new) }
+    ensures grew_blobs { IfOk result (λ n. Grew blob_bytes (λ content. value_of (counts (rows_in set.now)) cell.entry ≡ Blob content) blobs.old blobs.new) }
     ensures value { IfOk result (λ n. (value_at texts.new blobs.new column n ≡ value_of (counts (rows_in set.now)) cell.entry) × (cell_known texts.new blobs.new column n ≡ true)) }
 {
     match cell {
@@ -46,6 +52,7 @@ pub fn number(
 }
 
 /// The numbers of cells, one for each column.
+#[tactic(auto, using(crate::proofs::TightLaws::grew_same))]
 pub fn numbers(
     alloc: Global,
     texts: &mut TextHeap,
@@ -60,6 +67,8 @@ pub fn numbers(
     ensures standing { EachStands BlobHere blobs.new }
     ensures texts { Keeps texts.old texts.new }
     ensures blobs { Keeps blobs.old blobs.new }
+    ensures grew_texts { IfOk result (λ row. Grew text_bytes (λ content. Contains (map (value_of (counts (rows_in set.now))) cells.now) (Text content)) texts.old texts.new) }
+    ensures grew_blobs { IfOk result (λ row. Grew blob_bytes (λ content. Contains (map (value_of (counts (rows_in set.now))) cells.now) (Blob content)) blobs.old blobs.new) }
     ensures says { IfOk result (λ row. Says texts.new blobs.new columns.now row.items (map (value_of (counts (rows_in set.now))) cells.now)) }
 {
     let mut row = Vec::with_capacity(alloc, cells.len())?;

@@ -1,12 +1,15 @@
 //! Rows and heaps, line by line.
 
-ghost use Rattle.std.specs.Prelude.{◌≡◌, ◌<◌, ◌^◌, IsTrue, [], Some, true, length, IfOk, OnOk};
-ghost use Rattle.md_heaps.specs.Blobs.{BlobHere};
+ghost use Rattle.std.specs.Prelude.{◌≡◌, ◌<◌, ◌^◌, IsTrue, [], Some, true, false, length, IfOk, OnOk};
+ghost use Rattle.md_heaps.specs.Blobs.{BlobHere, blob_bytes};
 ghost use Rattle.md_heaps.specs.Heaps.{EachStands, index_of};
+ghost use Rattle.md_heaps.specs.Texts.{text_bytes};
 ghost use Rattle.md_schema.specs.declared.table.Table.{Table};
 ghost use Rattle.md_schema.specs.Schema.{columns_of};
 ghost use Rattle.md_tables.specs.Rows.{rows_in};
-ghost use Rattle.row_writer.specs.Known.{all_known};
+ghost use Rattle.row_writer.specs.Known.{all_known, rows_seen};
+ghost use Rattle.row_writer.specs.Tight.{Has, Tight};
+ghost use Rattle.winmd_rows.specs.Values.{Text, Blob};
 
 use crate::cell::Cell;
 use crate::numbers::numbers;
@@ -23,12 +26,17 @@ pub struct Writer {
     pub texts: TextHeap,
     pub blobs: BlobHeap,
     alloc: Global,
+    /// Whether a line was given up, so that a heap may have what no row says.
+    pub failed: bool,
     pub ghost room: { (table : Table) → length (rows_in set table) < 2 ^ 24 },
     // each index in a row is that of what was interned
     pub ghost known: { (table : Table) → all_known texts blobs (rows_in set) table ≡ true },
     pub ghost standing: { EachStands BlobHere blobs },
     pub ghost empty_text: { index_of texts [] ≡ Some 0 },
     pub ghost empty_blob: { index_of blobs [] ≡ Some 0 },
+    // the heaps hold nothing but what rows say
+    pub ghost tight_texts: { failed ≡ false → ∥ Tight text_bytes (λ content. Has (rows_seen texts blobs (rows_in set)) (Text content)) texts ∥₁ },
+    pub ghost tight_blobs: { failed ≡ false → ∥ Tight blob_bytes (λ content. Has (rows_seen texts blobs (rows_in set)) (Blob content)) blobs ∥₁ },
 }
 
 /// The most rows of a table.
@@ -50,6 +58,7 @@ impl Writer {
             texts,
             blobs,
             alloc,
+            failed: false,
         })
     }
 
@@ -62,6 +71,8 @@ impl Writer {
         if self.set.count(table) >= MOST_ROWS {
             return Err(AllocError);
         }
+        let failed = self.failed;
+        self.failed = true;
         let row = numbers(
             self.alloc,
             &mut self.texts,
@@ -70,6 +81,8 @@ impl Writer {
             columns(table),
             cells,
         )?;
-        self.set.push_cells(table, row)
+        self.set.push_cells(table, row)?;
+        self.failed = failed;
+        Ok(())
     }
 }

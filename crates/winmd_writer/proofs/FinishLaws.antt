@@ -1,5 +1,6 @@
 -- Rows that are known stand for what they say: the writer's heaps hold them, and their numbers are those by placement.
 use Rattle.std.proofs.Common.{◌≡◌, ℕ, ◌^◌, true, ltb, List, [], ◌∷◌, length, map, get_or, Option, Some, None, Result, Ok, Err, refl, sym, ap, subst, ◌∙◌}
+use Rattle.std.proofs.Math.Logic.{∥∥₁_map}
 use Rattle.std.specs.Prelude.{is_some, unwrap_or, IfSome, IfOk, OnOk}
 use Rattle.std.specs.List.{AllByRecursion, list_all}
 use Rattle.std.proofs.lemmas.Bool.{and_parts, ltb-true}
@@ -7,7 +8,7 @@ use Rattle.md_bytes.specs.Bytes.{part_at}
 use Rattle.md_heaps.specs.Blobs.{BlobHere, blob_bytes}
 use Rattle.md_heaps.specs.Heaps.{Heap, index_of, EachStands}
 use Rattle.md_heaps.specs.Reading.{text_at, blob_at}
-use Rattle.md_heaps.specs.Texts.{TextAt}
+use Rattle.md_heaps.specs.Texts.{TextAt, text_bytes}
 use Rattle.md_schema.specs.declared.table.Table.{Table}
 use Rattle.md_schema.specs.declared.table.Table.TheVariants as tables
 use Rattle.md_schema.specs.declared.column.Column.{Column}
@@ -27,10 +28,12 @@ use Rattle.winmd_sets.specs.Rows.{rows_of, code_of_cell}
 use Rattle.winmd_strict.specs.Placed.{Placed, Heaped, HoldsCell, number_in_cell, numbers_in_row, numbers_of, parts_with, sizes_of_rows}
 use Rattle.wr_base.specs.Trees.{DeclTree, name_of}
 use Rattle.row_writer.specs.Known.{Values, found, target, value_at, values_at, is_at, text_known, blob_known, cell_known, row_known, all_known, rows_seen}
+use Rattle.row_writer.specs.Tight.{Has, Tight}
 use Rattle.row_writer.proofs.CellLaws.{is_index}
 use Rattle.winmd_writer.specs.Finished.{ImageOf, StrictFor, all_in_order}
 use Rattle.winmd_writer.specs.Sorted.{number_in, all_sorted}
 use Rattle.winmd_writer.proofs.SortLaws.{sorted_mapped, sorted_passes}
+use Rattle.winmd_writer.proofs.TightLaws.{tight_by}
 
 abbrev pub placed_in : Heap → Placed
 placed_in heap = record { bytes = heap.bytes; index = λ content. unwrap_or (index_of heap content) 0 }
@@ -129,9 +132,10 @@ module _ (texts blobs : Heap) (each : EachStands BlobHere blobs) where
     seen_at t = refl
 
     -- the image of known rows that say, put in order, what declarations are written as is strict for these
-    pub strict_by : (bytes : List ℕ) → EachStands TextAt texts → index_of texts [] ≡ Some 0 → index_of blobs [] ≡ Some 0 → ImageOf texts.bytes blobs.bytes (all_sorted raws) bytes
+    pub strict_by : (bytes : List ℕ) → EachStands TextAt texts → index_of texts [] ≡ Some 0 → index_of blobs [] ≡ Some 0
+        → ∥ Tight text_bytes (λ content. Has (rows_seen texts blobs raws) (values.Text content)) texts ∥₁ → ∥ Tight blob_bytes (λ content. Has (rows_seen texts blobs raws) (values.Blob content)) blobs ∥₁ → ImageOf texts.bytes blobs.bytes (all_sorted raws) bytes
         → (declared : List DeclTree) → Rising name_of declared → all_in_order (rows_seen texts blobs raws) ≡ rows_of declared → StrictFor declared bytes
-    strict_by bytes standing text blob image declared ordered seen =
+    strict_by bytes standing text blob tight_texts tight_blobs image declared ordered seen =
         let heaps : Heaped = heaped texts blobs in
         let sorted : Table → List (List ℕ) = all_sorted raws in
         let is : rows_seen texts blobs sorted ≡ rows_of declared = (λ i. λ t. seen_at t i) ∙ seen in
@@ -151,6 +155,8 @@ module _ (texts blobs : Heap) (each : EachStands BlobHere blobs) where
             small = subst (λ (r : Table → List (List ℕ)). Small (parts_with texts.bytes blobs.bytes r)) (sym again) image.small;
           };
           states = refl;
+          texts = ∥∥₁_map tight_texts (tight_by text_bytes (λ content. values.Text content) texts (rows_seen texts blobs raws) (rows_of declared) seen);
+          blobs = ∥∥₁_map tight_blobs (tight_by blob_bytes (λ content. values.Blob content) blobs (rows_seen texts blobs raws) (rows_of declared) seen);
         }
 
 pub if_ok : {T E : Type 0} (r : Result T E) (P Q : T → Type 0) → ((x : T) → P x → Q x) → IfOk r P → IfOk r Q

@@ -1,3 +1,4 @@
+pub mod TightLaws
 pub mod SortLaws
 pub mod FinishLaws
 pub mod TableLaws

@@ -40,11 +40,14 @@ fn image(alloc: Global, set: &TableSet, texts: &[u8], blobs: &[u8]) -> Result<Ve
     wrap_types(alloc, &tables, texts, blobs)
 }
 
-/// The image of the rows so far. It is strict for the declarations of which these, put in order, are the rows. What is beyond the format's
-/// sizes is want of memory.
+/// The image of the rows so far. It is strict for the declarations of which these, put in order, are the rows, and its heaps hold nothing but
+/// what these say. What is beyond the format's sizes is want of memory, and so is what a writer that gave up a line has.
 pub fn finished(alloc: Global, writer: Writer) -> Result<Vec<u8>, Memory>
     ensures { IfOk result (λ bytes. (declared : List DeclTree) → Rising name_of declared → all_in_order (seen writer) ≡ rows_of declared → StrictFor declared bytes.items) }
 {
+    if writer.failed {
+        return Err(AllocError);
+    }
     let mut set = writer.set;
     sort_tables(&mut set)?;
     let texts = writer.texts.bytes();

@@ -1,5 +1,9 @@
 use Rattle.std.proofs.Common.{◌≡◌, ℕ, suc, ◌+◌, List, length, take, map, sym, subst, arith}
 use Rattle.std.proofs.lemmas.List.{take_all, length-map}
+use Rattle.md_heaps.specs.Blobs.{blob_bytes}
+use Rattle.md_heaps.specs.Texts.{text_bytes}
+use Rattle.winmd_rows.specs.Values.{Text, Blob}
+use Rattle.row_writer.proofs.TightLaws.{grew_cell}
 use Rattle.md_schema.specs.declared.column.Column.{Column}
 use Rattle.md_schema.specs.declared.column.Column.TheVariants.{One}
 use Rattle.md_tables.specs.Rows.{rows_in}
@@ -39,6 +43,8 @@ loop-i-preserved c = (
       let one : suc c.loop-i.i ≡ c.loop-i.i + 1 = omega arith in
       subst (λ (k : ℕ). Says c.number.new.texts c.number.new.blobs (take k c.args.columns.now) c.push.new.self.items (take k (map (value_of (counts (rows_in c.args.set.now))) c.args.cells.now))) one
       (subst (λ (ns : List ℕ). Says c.number.new.texts c.number.new.blobs (take (suc c.loop-i.i) c.args.columns.now) ns (take (suc c.loop-i.i) (map (value_of (counts (rows_in c.args.set.now))) c.args.cells.now))) (sym c.in_ok-push.ensures.items) next)),
+  grew_cell text_bytes Text (value_of (counts (rows_in c.args.set.now))) c.args.cells.now c.loop-i.i (cells.Number 0) c.args.texts.now c.loop-i.texts c.number.new.texts c.loop-i-test.true c.loop-i.invariant.4 c.in_ok-number.ensures.grew_texts,
+  grew_cell blob_bytes Blob (value_of (counts (rows_in c.args.set.now))) c.args.cells.now c.loop-i.i (cells.Number 0) c.args.blobs.now c.loop-i.blobs c.number.new.blobs c.loop-i-test.true c.loop-i.invariant.5 c.in_ok-number.ensures.grew_blobs,
 )
 
 pub returns-clause-says : goal.returns-clause-says
