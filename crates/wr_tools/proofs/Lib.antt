@@ -1,5 +1,6 @@
 pub mod SayLemmas
 pub mod EndLemmas
+mod SourceLaws
 mod SetLemmas
 mod OwedLemmas
 mod WordLemmas

@@ -15,6 +15,7 @@ use Rattle.source_set.specs.Stops.{Complete, Stopped, Faulted, Reached}
 use Rattle.wr_tools.specs.Command.{Owes}
 use Rattle.wr_tools.specs.Lines.{read_fault}
 use Rattle.wr_tools.specs.Made.{Made}
+use Rattle.wr_tools.proofs.SourceLaws.{writable}
 use Rattle.wr_tools.specs.Midl.{EventLine, status_of, midl_command}
 use Rattle.wr_tools.specs.Outcomes.{RefusalOwed, ReadFaultOwed}
 use Rattle.wr_tools.specs.Reply.{done}
@@ -142,7 +143,10 @@ module _ (words : List (List ℕ)) (held : Option Files) (sources : List Source)
           resolved = here.resolved;
           sound = here.made.sound;
           bytes = bytes;
-          image = here.made.image;
+          image = record {
+            strict = here.made.strict;
+            states = λ free. here.made.states (writable words (map read_of sources) complete.none.begins bytes here free);
+          };
           is = refl;
         }));
       }

@@ -1,5 +1,7 @@
 -- What is made of what is declared, and what sets nothing is refused of.
-use Rattle.std.proofs.Common.{◌≡◌, ℕ, List, Option, None, Some, Result, Ok, Err, IfOk, IfErr, Vec, ap, subst, inl, inr}
+use Rattle.std.proofs.Common.{◌≡◌, ◌<◌, ◌+◌, ℕ, List, [], ◌∷◌, get_or, slice_get, map, sym, ◌∙◌, arith, ⊎_elim, eq-or-lt_of_le, Option, None, Some, Result, Ok, Err, IfOk, IfErr, OnOk, Vec, ap, subst, inl, inr}
+use Rattle.std.specs.List.{All}
+use Rattle.std.proofs.lemmas.Option.{get_or_from_slice_get}
 use Rattle.std.specs.declared.alloc.Global.{Global}
 use Rattle.ranked.specs.Entries.{Entry}
 use Rattle.ranked.specs.First.{IsFirst, Clear}
@@ -7,6 +9,8 @@ use Rattle.ranked.specs.declared.stop.Stop.{Stop}
 use Rattle.ranked.specs.declared.stop.Stop.TheVariants.{Refused, Memory}
 use Rattle.wr_base.specs.declared.declaration.Declaration.{Declaration}
 use Rattle.wr_base.specs.declared.places.DeclPlaces.{DeclPlaces}
+use Rattle.placed_items.specs.Applied.{AreApplied}
+use Rattle.placed_items.specs.Named.{AreNamed, ArePathed}
 use Rattle.placed_items.specs.declared.placed.PlacedItem.{PlacedItem}
 use Rattle.midl_names.specs.Declares.{Declares}
 use Rattle.midl_names.specs.Items.{Source}
@@ -18,13 +22,30 @@ use Rattle.type_rules.specs.Answers as rules
 use Rattle.source_set.specs.Found.{Read}
 use Rattle.source_set.proofs.LawLemmas.{one_set, no_first}
 use Rattle.wr_rules.specs.Accepted.{Broken}
+use Rattle.wr_base.specs.Trees.{decl_tree}
+use Rattle.place_laws.specs.Shapes.{FitPlaces}
+use Rattle.winmd_strict.specs.Reading.{TypesOf}
+use Rattle.winmd_write.specs.Writable.{Writable}
+use Rattle.winmd_writer.specs.Finished.{StrictFor}
+use Rattle.writable_sets.specs.Stated.{HasWidths}
 use Rattle.wr_tools.specs.Made.{Made, MadeOf, RefusedFirst, RefusedOfTypes}
 use Rattle.wr_tools.specs.Midl.{midl_command}
-use Rattle.wr_tools.specs.Sets.{sources_of, HasTypes, FirstFault, Image, Unbroken}
+use Rattle.wr_tools.specs.Sets.{sources_of, HasTypes, FirstFault, Unbroken}
 use Rattle.wr_tools.proofs.EndLemmas.{IsSettled}
 
 abbrev Answer : Type 0
 Answer = Result (Vec ℕ Global) (Stop Entry)
+
+-- ---- widths
+
+-- one more declaration whose numbers have their widths
+pub widths_more : (types : List Declaration) (i : ℕ) (x : Declaration) → slice_get types i ≡ Some x → All HasWidths (x ∷ [])
+    → ((k : ℕ) (d : Declaration) → k < i → HasWidths (get_or types k d)) → (k : ℕ) (d : Declaration) → k < i + 1 → HasWidths (get_or types k d)
+widths_more types i x at here so_far k d l =
+    ⊎_elim
+    (λ (e : k ≡ i). subst HasWidths (sym (ap (λ j. get_or types j d) e ∙ get_or_from_slice_get types i x d at)) (here 0 x (omega arith)))
+    (λ (lt : k < i). so_far k d lt)
+    (eq-or-lt_of_le (omega (arith, l)))
 
 -- ---- what is declared
 
@@ -44,9 +65,11 @@ clash_refused items (Refused e) first = inl first
 
 module _ (items : List PlacedItem) (types : List Declaration) (places : List DeclPlaces) (has : HasTypes items types places) where
   -- the image of full types
-  pub made_of : (r : Answer) → IfOk r (λ b. Clear (Broken types places)) → IfOk r (λ b. Image types b.items) → IfOk r (λ b. MadeOf items b.items)
-  made_of (Ok b) kept image = record { types = types; sound = record { places = places; has = has; kept = kept }; image = image }
-  made_of (Err e) kept image = tt
+  pub made_of : (r : Answer) → FitPlaces types places → IfOk r (λ b. Clear (Broken types places)) → OnOk r (All HasWidths types)
+      → IfOk r (λ b. StrictFor (map decl_tree types) b.items) → IfOk r (λ b. Writable types → TypesOf b.items ≡ Ok (map decl_tree types)) → IfOk r (λ b. MadeOf items b.items)
+  made_of (Ok b) fits kept widths strict states =
+      record { types = types; sound = record { places = places; has = has; kept = kept }; fits = fits; widths = widths; strict = strict; states = states }
+  made_of (Err e) fits kept widths strict states = tt
 
   -- a rule or a limit is the first fault of what is declared
   pub rules_refused : (r : Answer) → IfErr r (rules.RefusedFirst types places) → IfErr r (RefusedOfTypes items)
@@ -67,9 +90,15 @@ types_refused sources items (Refused x) e resolved first = inr (resolved, subst 
 
 module _ (sources : List Source) (items : List PlacedItem) (declares : items ≡ Declares sources) (resolved : Clear (Names sources)) where
   -- the image of what the sources declare
-  pub made_set : (r : Answer) → IfOk r (λ b. MadeOf items b.items) → IfOk r (λ b. Made sources b.items)
-  made_set (Ok b) made = record { resolved = resolved; made = subst (λ is. MadeOf is b.items) declares made }
-  made_set (Err e) made = tt
+  pub made_set : (r : Answer) → AreNamed items → ArePathed items → AreApplied items → IfOk r (λ b. MadeOf items b.items) → IfOk r (λ b. Made sources b.items)
+  made_set (Ok b) named pathed applied made = record {
+    resolved = resolved;
+    named = subst AreNamed declares named;
+    pathed = subst ArePathed declares pathed;
+    applied = subst AreApplied declares applied;
+    made = subst (λ is. MadeOf is b.items) declares made;
+  }
+  made_set (Err e) named pathed applied made = tt
 
   -- where no name is broken, the first fault of what is declared is that of the set
   pub set_refused : (r : Answer) → IfErr r (RefusedOfTypes items) → IfErr r (RefusedFirst sources)
