@@ -12,6 +12,11 @@ for crate in "$root"/crates/*/; do
     for part in src specs proofs; do
         [ ! -d "$crate/$part" ] || cp -R "$crate/$part" "$work/crates/$name/"
     done
+    # (a library that is proved here is taken along; one whose text has changed since is proved there anew)
+    if [ -d "$crate/out/rlib" ]; then
+        mkdir "$work/crates/$name/out"
+        cp -Rl "$crate/out/rlib" "$work/crates/$name/out/" 2>/dev/null || cp -R "$crate/out/rlib" "$work/crates/$name/out/"
+    fi
 done
 
 # program NAME 'DEP DEP ..' < main.rt: a program over these crates
