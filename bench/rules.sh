@@ -6,7 +6,8 @@
 #
 # At 20000 interfaces, and at 6000 classes, it is to take less than 1 s, and twice as many less than 2.3 times as long. A chain of
 # 20,000 structs, a ring of as many, 4,000 members of one name, 500,000 cases, and 20,000 types in a tree of namespaces are to take
-# less than 2 s each. Sets above a limit are refused, after as many passes.
+# less than 2 s each. A chain of 2,800 interfaces, with four times as
+# many listed uses as one of half, is to take less than 5 times as long. Sets above a limit are refused, after as many passes.
 set -eu
 count=${1:-20000}
 . "$(dirname "$0")/programs.sh"
@@ -128,6 +129,14 @@ structs() {
         printf "struct S%05d { %s x; };\n}\n", n - 1, last
     }'
 }
+# required N: a chain of so many interfaces, each of which requires the one before, so that the lists hold N(N - 1)/2 together
+required() {
+    awk -v n="$1" 'BEGIN {
+        print "namespace Gen {\ninterface I0 { void M0(); };"
+        for (i = 1; i < n; i++) printf "interface I%d requires I%d { void M%d(); };\n", i, i - 1, i
+        print "}"
+    }'
+}
 # members N: one interface with so many methods of one name
 members() {
     awk -v n="$1" 'BEGIN { print "namespace Gen { interface I {"; for (i = 0; i < n; i++) print "void M();"; print "}; }" }'
@@ -169,6 +178,8 @@ structs 20000 Int32 | alone chain-once
 structs 40000 Int32 | alone chain-twice
 structs 20000 S00000 | alone ring-once
 structs 40000 S00000 | alone ring-twice
+required 1400 | alone required-once
+required 2800 | alone required-twice
 members 4000 | alone members-once
 members 8000 | alone members-twice
 spaces 20000 | alone spaces-once
@@ -180,5 +191,6 @@ compared classes 6000
 compared cases 500000
 compared chain 20000
 compared ring 20000
+compared required 1400
 compared members 4000
 compared spaces 20000
