@@ -1,0 +1,3 @@
+pub mod Own
+pub mod Full
+pub mod Worded
