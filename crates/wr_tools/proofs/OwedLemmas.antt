@@ -145,7 +145,7 @@ module _ (words : List (List ℕ)) (held : Option Files) (sources : List Source)
           bytes = bytes;
           image = record {
             strict = here.made.strict;
-            states = λ free. here.made.states (writable words (map read_of sources) complete.none.begins bytes here free);
+            states = here.made.states (writable words (map read_of sources) complete.none.begins bytes here);
           };
           is = refl;
         }));

@@ -15,7 +15,6 @@ use Rattle.wr_rules.specs.Accepted.{Broken}
 use Rattle.source_set.specs.Found.{Read}
 use Rattle.winmd_strict.specs.Reading.{TypesOf}
 use Rattle.winmd_writer.specs.Finished.{StrictFor}
-use Rattle.writable_sets.specs.Stated.{NoGuid}
 
 -- the files' trees, numbered from this number on
 abbrev pub sources_from : ℕ → List Read → List Source
@@ -57,7 +56,7 @@ pub record Unbroken (sources : List Source) : Type 0 where
   pub made : Clear (IsClash (Declares sources))
   pub kept : (types : List Declaration) (places : List DeclPlaces) → IsFull (Declares sources) types places → Clear (Broken types places)
 
--- These bytes are an image of the types: they are strict for them, and state them and nothing else, where no use is a value of `System.Guid`, which reads as the base type Guid.
+-- These bytes are an image of the types: they are strict for them, and state them and nothing else.
 pub record Image (types : List Declaration) (bytes : List ℕ) : Type 0 where
   pub strict : StrictFor (map decl_tree types) bytes
-  pub states : NoGuid types → TypesOf bytes ≡ Ok (map decl_tree types)
+  pub states : TypesOf bytes ≡ Ok (map decl_tree types)
