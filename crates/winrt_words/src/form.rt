@@ -1,0 +1,34 @@
+//! The forms of the commands' words, as commands of `clap`.
+
+ghost use Rattle.std.specs.Prelude.{◌≡◌, IfOk, false};
+ghost use Rattle.clap.specs.Words.{app_of, rule_of};
+ghost use Rattle.winrt_words.specs.Forms.{files_form, files_rule, out_rule};
+
+use clap::{Arg, Command};
+use std::alloc::{AllocError, Global};
+
+// `-o OUT`
+fn out_option<'a>(alloc: Global) -> Arg<'a>
+    ensures rule { rule_of result ≡ out_rule }
+    ensures local { result.global ≡ false }
+{
+    Arg::new(alloc, "out").short('o').required(true)
+}
+
+// `FILE..`
+fn file_words<'a>(alloc: Global) -> Arg<'a>
+    ensures rule { rule_of result ≡ files_rule }
+    ensures local { result.global ≡ false }
+{
+    Arg::new(alloc, "files").num_args(1..).required(true)
+}
+
+/// `NAME -o OUT FILE..`
+pub(crate) fn takes_files<'a>(alloc: Global, name: &'a str) -> Result<Command<'a>, AllocError>
+    ensures { IfOk result (λ command. app_of command ≡ files_form name.entry.now) }
+{
+    let named = Command::new(alloc, name);
+    let writes = named.arg(out_option(alloc))?;
+    let reads = writes.arg(file_words(alloc))?;
+    Ok(reads)
+}
