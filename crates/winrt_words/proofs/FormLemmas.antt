@@ -1,5 +1,5 @@
 -- What a parse by a form comes to.
-use Rattle.std.proofs.Common.{◌≡◌, ◌∙◌, ℕ, List, [], ◌∷◌, Option, None, Some, Result, Ok, Err, IfOk, IsErr, map, option_map, true, false, refl, sym, ap, subst, inl, inr}
+use Rattle.std.proofs.Common.{◌≡◌, ◌∙◌, ℕ, List, [], ◌∷◌, Option, None, Some, Result, Ok, Err, IfOk, IsErr, option_map, true, false, refl, sym, ap, subst, inl, inr}
 use Rattle.clap.specs.Words.{App, Kinds, IsAmong, HasKind, HasMatchesOf, kind_of, is_simple, fault_of, is_simple_and_free, matches_of, rows_of, found_of}
 use Rattle.clap.specs.declared.error.Error.{Error}
 use Rattle.clap.specs.declared.error.kind.ErrorKind.{ErrorKind}

@@ -15,7 +15,6 @@ pub enum Command {
     MdMerge(Given),
 }
 
-
 // The command of this name, if its form takes the words.
 fn command_by(alloc: Global, name: &str, words: &[String]) -> Result<Option<Command>, AllocError>
     ensures { IfOk result (λ command. option_map command_seen command ≡ named_by name.now (map string_bytes words.now)) }

@@ -1,7 +1,7 @@
 //! What words give to a command whose form takes them.
 
 ghost use Rattle.std.specs.Prelude.{◌≡◌, IfOk, IsErr, None, Ok, [], map, string_bytes, option_map, unwrap_or, codes};
-ghost use Rattle.clap.specs.Words.{app_of, found_of, first_value, matched_of, raw_values, kind_of, rows_of};
+ghost use Rattle.clap.specs.Words.{found_of, first_value, matched_of, raw_values, kind_of, rows_of};
 ghost use Rattle.clap.specs.declared.error.kind.ErrorKind.TheVariants.{OutOfMemory};
 ghost use Rattle.winrt_words.specs.Forms.{files_form};
 ghost use Rattle.winrt_words.specs.Words.{names_by, names_in, names_seen};

@@ -3,8 +3,10 @@
 #![tactic(auto)]
 
 mod command;
+mod examples;
 mod form;
 mod given;
 
 pub use command::{Command, command_of};
+pub use examples::examples_are_so;
 pub use given::Given;
