@@ -1,0 +1,8 @@
+//! Sets of declarations put together: the union of what images state, where no full name has two declarations that differ and the rules and limits hold.
+//!
+//! `merge` gathers the declarations of all sets (`gathered`), finds the first name that has two (`conflicts`), keeps one declaration of each name (`united`), and asks the rules.
+#![tactic(auto)]
+
+mod conflicts;
+mod gathered;
+mod united;
