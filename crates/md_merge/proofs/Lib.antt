@@ -1,1 +1,2 @@
 pub mod UnionLaws
+pub mod MergeLaws

@@ -1,18 +1,18 @@
 -- Of a list in the order of names one declaration of each name is a union, where neighbours of one name are one.
-use Rattle.std.proofs.Common.{◌≡◌, ℕ, zero, suc, ◌+◌, ◌-◌, ◌<◌, ◌≤◌, ◌^◌, ◌⊎◌, inl, inr, ⊎_elim, Bool, true, false, cond, List, [], ◌∷◌, ◌++◌, Some, None, Contains, length, map, get_or, slice_get, take, is_lt, refl, sym, ap, subst, ◌∙◌, arith, add-one, append_assoc, true≢false}
+use Rattle.std.proofs.Common.{◌≡◌, ℕ, zero, suc, ◌+◌, ◌-◌, ◌*◌, ◌<◌, ◌≤◌, ◌^◌, ◌⊎◌, inl, inr, ⊎_elim, true, false, cond, List, [], ◌∷◌, ◌++◌, Some, Contains, length, map, get_or, slice_get, take, is_lt, refl, sym, ap, subst, ◌∙◌, arith, add-one, append_assoc, true≢false}
 use Rattle.std.specs.Prelude.{fold}
 use Rattle.std.specs.declared.cmp.Ordering.{Ordering}
 use Rattle.std.specs.declared.cmp.Ordering.TheVariants.{Less, Equal, Greater}
 use Rattle.std.specs.Ordering.{nat_cmp, ordering_reverse}
 use Rattle.std.specs.Cmp.Lexicographic.{slice_cmp, nat_list_cmp_total, bytes_decides}
-use Rattle.std.specs.List.{All, AllAdjacentBelow, flat_map, sum_by}
+use Rattle.std.specs.List.{All, AllAdjacentBelow, sum_by}
 use Rattle.std.specs.List.Sorted.{IsPermutation, IsSortedByKey}
 use Rattle.std.specs.Str.{bytes_eq}
 use Rattle.std.proofs.Math.Seq.{get_or-append_seam}
 use Rattle.std.proofs.lemmas.Option.{slice_get-get_or, slice_get_within, get_or_from_slice_get}
 use Rattle.std.proofs.lemmas.List.{length-append, take_more}
 use Rattle.std.proofs.lemmas.List.Elements.{All-nil, All-cons, All-append, All-head, All-tail, All-contains}
-use Rattle.std.proofs.lemmas.List.Sorted.{Contains-permutation, IsPermutation-sym, All-permutation, length_permutation, sum_by-IsPermutation}
+use Rattle.std.proofs.lemmas.List.Sorted.{Contains-permutation, IsPermutation-sym, length_permutation, sum_by-IsPermutation}
 use Rattle.std.proofs.lemmas.List.Sums.{sum_by-cons}
 use Rattle.ranked.specs.declared.stop.Stop.{Stop}
 use Rattle.ranked.specs.declared.stop.Stop.TheVariants.{Refused, Memory}
@@ -22,8 +22,8 @@ use Rattle.wr_base.specs.Declarations.{name_of, Precedes, IsInOrder, IsLeastTwic
 use Rattle.wr_base.specs.Normal.{normal}
 use Rattle.wr_base.specs.Places.{total, part_count}
 use Rattle.wr_base.specs.declared.declaration.Declaration.{Declaration}
-use Rattle.md_merge.specs.Neighbours.{Differ, Agree, AllAgree, FirstDiffers, ListAgrees, ListDiffers, is_named, ends_with, put, firsts}
-use Rattle.md_merge.specs.Unions.{all_of, IsNormal, IsUnion, Conflicts, LeastConflict, OnRefused}
+use Rattle.md_merge.specs.Neighbours.{AllAgree, FirstDiffers, ListAgrees, ListDiffers, is_named, put, firsts}
+use Rattle.md_merge.specs.Unions.{all_of, IsNormal, IsUnion, LeastConflict, OnRefused}
 
 abbrev text_cmp : List ℕ → List ℕ → Ordering
 text_cmp = slice_cmp nat_cmp
@@ -317,3 +317,19 @@ one_more before now after types i d e at same was is =
 pub refused_of : (sets : List (List Declaration)) (list : List Declaration) (stop : Stop (List ℕ)) → IsPermutation (all_of sets) list → IsSortedByKey name_of text_cmp list → OnRefused (ListDiffers list) stop → OnRefused (LeastConflict sets) stop
 refused_of sets list Memory moved sorted h = tt
 refused_of sets list (Refused name) moved sorted h = conflict_of sets list name moved sorted h
+
+-- ---- how many declarations and parts sets have together
+
+total-append : (xs ys : List Declaration) → total (xs ++ ys) ≡ total xs + total ys
+total-append [] ys = omega arith
+total-append (x ∷ xs) ys = omega (arith, total-append xs ys)
+
+total_sets : (sets : List (List Declaration)) → All (λ set. total set ≤ 520000) sets → total (all_of sets) ≤ 520000 * length sets
+total_sets [] h = omega arith
+total_sets (set ∷ sets) h =
+    let first : total set ≤ 520000 = All-head (λ (s : List Declaration). total s ≤ 520000) set sets h in
+    let rest : total (all_of sets) ≤ 520000 * length sets = total_sets sets (All-tail (λ (s : List Declaration). total s ≤ 520000) set sets h) in
+    omega (arith, first, rest, total-append set (all_of sets))
+
+pub few_together : (sets : List (List Declaration)) → length sets ≤ 256 → All (λ set. total set ≤ 520000) sets → total (all_of sets) < 2 ^ 32
+few_together sets few h = omega (arith, few, total_sets sets h)

@@ -35,10 +35,10 @@ pub record LeastConflict (sets : List (List Declaration)) (name : List ℕ) : Ty
   pub stands : Conflicts sets name
   pub least : (other : List ℕ) → slice_cmp nat_cmp other name ≡ Less → ¬ (Conflicts sets other)
 
--- why there is no union; of want of memory nothing is said
-abbrev pub OnRefused : (List ℕ → Type 0) → Stop (List ℕ) → Type 0
+-- a fact of what is refused; of want of memory nothing is said
+abbrev pub OnRefused : {R : Type 0} → (R → Type 0) → Stop R → Type 0
 OnRefused P Memory = ⊤
-OnRefused P (Refused name) = P name
+OnRefused P (Refused refusal) = P refusal
 
 -- its lists that stand for sets are in order, each text once
 abbrev pub IsNormal : Declaration → Type 0

@@ -1,5 +1,4 @@
 use Rattle.std.proofs.Common.{ℕ, List, length}
-use Rattle.wr_base.specs.Declarations.{name_of}
 use Rattle.md_merge.specs.Neighbours.{AllAgree, FirstDiffers}
 use Rattle.md_merge.proofs.conflicts.first_from.Given as goal
 

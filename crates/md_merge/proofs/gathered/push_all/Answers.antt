@@ -1,4 +1,3 @@
-use Rattle.std.proofs.Common.{◌≡◌}
 use Rattle.md_merge.proofs.UnionLaws.{one_more}
 use Rattle.md_merge.proofs.gathered.push_all.Goals as goal
 
