@@ -1,0 +1,5 @@
+pub mod SetLaws
+pub mod SeenLaws
+pub mod EachLaws
+pub mod MakingLaws
+pub mod PartLaws
