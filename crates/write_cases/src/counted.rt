@@ -23,7 +23,8 @@ fn cases_to(alloc: Global, count: u32) -> Result<Cases, AllocError> {
     Ok(cases)
 }
 
-fn enum_of(alloc: Global, name: FullName, count: u32) -> Result<Declaration, AllocError> {
+/// The enum of this name with so many cases.
+pub fn enum_of(alloc: Global, name: FullName, count: u32) -> Result<Declaration, AllocError> {
     let cases = cases_to(alloc, count)?;
     Ok(Declaration::Enum {
         name,

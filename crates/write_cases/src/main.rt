@@ -4,10 +4,13 @@
 
 mod cells;
 mod counted;
+mod properties;
+mod repeated;
 mod rows;
 mod sources;
 mod written;
 
+use repeated::{Kind, many};
 use std::alloc::AllocError;
 use std::io;
 
@@ -16,6 +19,9 @@ fn answer_of(out: &mut String, command: &str, case: &str) -> Result<(), AllocErr
         "rows" => written::rows(out, case),
         "bytes" => written::bytes(out, case),
         "enum" => counted::one_enum(out, case),
+        "enums" => many(out, Kind::Enum, case),
+        "readable" => many(out, Kind::Readable, case),
+        "settable" => many(out, Kind::Settable, case),
         _ => out.push_str("no such command"),
     }
 }

@@ -12,11 +12,12 @@ use std::alloc::AllocError;
 use winmd_cells::{Image, places_of};
 use winmd_image::{Streams, unwrap};
 
-/// Which rows of a table are printed: all, or how many there are and the last.
+/// Which rows of a table are printed: all; how many there are, and the last; or how many, the one in the middle and the last.
 #[derive(Clone, Copy)]
 pub enum Which {
     All,
     Last,
+    Middle,
 }
 
 fn push_cell(
@@ -61,6 +62,14 @@ fn push_last(out: &mut String, image: &Image<'_>, table: Table) -> Result<(), Al
     push_row(out, image, table, count)
 }
 
+fn push_middle(out: &mut String, image: &Image<'_>, table: Table) -> Result<(), AllocError> {
+    let alloc = *out.allocator();
+    let count = image.count(table);
+    out.push_str(format!(in alloc; "{count} ")?.as_str())?;
+    push_row(out, image, table, count - count / 2)?;
+    push_row(out, image, table, count)
+}
+
 fn push_table(
     out: &mut String,
     image: &Image<'_>,
@@ -74,6 +83,7 @@ fn push_table(
     match which {
         Which::All => push_all(out, image, table),
         Which::Last => push_last(out, image, table),
+        Which::Middle => push_middle(out, image, table),
     }
 }
 

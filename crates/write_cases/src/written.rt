@@ -40,14 +40,19 @@ fn push_part(out: &mut String, bytes: &[u8], place: &str) -> Result<(), AllocErr
     push_runs(out, bytes.get(from..to).unwrap_or(&[]))
 }
 
-fn push_parts(out: &mut String, bytes: &[u8], places: &str) -> Result<(), AllocError> {
-    let alloc = *out.allocator();
-    let length = bytes.len();
-    out.push_str(format!(in alloc; "{length}")?.as_str())?;
+/// The bytes at each of the places `OFFSET:LENGTH ..`.
+pub fn push_places(out: &mut String, bytes: &[u8], places: &str) -> Result<(), AllocError> {
     for place in places.split_whitespace() {
         push_part(out, bytes, place)?;
     }
     Ok(())
+}
+
+fn push_parts(out: &mut String, bytes: &[u8], places: &str) -> Result<(), AllocError> {
+    let alloc = *out.allocator();
+    let length = bytes.len();
+    out.push_str(format!(in alloc; "{length}")?.as_str())?;
+    push_places(out, bytes, places)
 }
 
 fn push_bytes_of(
