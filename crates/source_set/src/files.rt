@@ -39,14 +39,14 @@ impl SourceSet {
         self.files.push(file)?;
         Ok(())
     }
+}
 
-    /// The line that a refusal in the file that it names puts on err.
-    pub fn line_of(&self, alloc: Global, refusal: &Refusal) -> Result<String, AllocError>
-        ensures { IfOk result (λ line. let text = text_in (map text_view self.now.texts.items) refusal.now.file in IsRefusalLine text.0 text.1 refusal.now (string_bytes line)) }
-    {
-        match self.texts.get(refusal.place.file as usize) {
-            Some(text) => refusal_line(alloc, text.name.as_str(), &text.bytes, refusal),
-            None => refusal_line(alloc, "", &[], refusal),
-        }
+/// The line that a refusal puts on err, which stands in one of these texts by its number.
+pub fn line_of(alloc: Global, texts: &[Text], refusal: &Refusal) -> Result<String, AllocError>
+    ensures { IfOk result (λ line. let text = text_in (map text_view texts.now) refusal.now.file in IsRefusalLine text.0 text.1 refusal.now (string_bytes line)) }
+{
+    match texts.get(refusal.place.file as usize) {
+        Some(text) => refusal_line(alloc, text.name.as_str(), &text.bytes, refusal),
+        None => refusal_line(alloc, "", &[], refusal),
     }
 }

@@ -13,7 +13,7 @@ mod set;
 mod source;
 mod texts;
 
-pub use files::SourceSet;
+pub use files::{SourceSet, line_of};
 pub use laws::one_outcome;
 pub use lines::refusal_line;
 pub use set::sources;

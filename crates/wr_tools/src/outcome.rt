@@ -10,7 +10,7 @@ ghost use Rattle.wr_tools.specs.Outcomes.{OutcomeIs, IsReadFault};
 
 use crate::said::Said;
 use crate::set::image_of_set;
-use source_set::{SourceSet, SourceStop, refusal_line, sources};
+use source_set::{SourceSet, SourceStop, line_of, refusal_line, sources};
 use std::alloc::{AllocError, Global};
 use wr_base::{Memory, Stop};
 use wr_outside::Store;
@@ -44,16 +44,17 @@ fn stopped(alloc: Global, stop: SourceStop) -> Result<Outcome, Memory>
     }
 }
 
-/// What a set comes to whose files have trees.
-fn resolved(alloc: Global, set: &SourceSet) -> Result<Outcome, Memory>
-    requires { length set.now.texts.items ≡ length set.now.files.items }
-    ensures is { (words : List (List ℕ)) (held : Option Files) → Complete words held (sources_in set.now) → IfOk result (OutcomeIs words held) }
+/// What a set comes to whose files have trees. These are let go as soon as nothing asks for them; a refusal's line needs the texts alone.
+fn resolved(alloc: Global, set: SourceSet) -> Result<Outcome, Memory>
+    requires { length set.texts.items ≡ length set.files.items }
+    ensures is { (words : List (List ℕ)) (held : Option Files) → Complete words held (sources_in set) → IfOk result (OutcomeIs words held) }
     ensures fault { IfOk result (λ outcome. ¬ (IsReadFault outcome)) }
 {
-    match image_of_set(alloc, &set.files) {
+    let SourceSet { texts, files } = set;
+    match image_of_set(alloc, files) {
         Ok(image) => Ok(Outcome::Image(image)),
         Err(Stop::Refused(refusal)) => {
-            let line = set.line_of(alloc, &refusal)?;
+            let line = line_of(alloc, &texts, &refusal)?;
             Ok(Outcome::Refused(Said::Refused, line))
         }
         Err(Stop::Memory) => Err(AllocError),
@@ -72,7 +73,7 @@ pub(crate) fn compiled<S: Store>(
     ensures rose { IfOk result (λ outcome. IsReadFault outcome → Rose (S.faults store.old) (S.faults store.new)) }
 {
     match sources(alloc, store, words) {
-        Ok(set) => resolved(alloc, &set),
+        Ok(set) => resolved(alloc, set),
         Err(stop) => stopped(alloc, stop),
     }
 }

@@ -58,21 +58,23 @@ fn image_of_types(alloc: Global, full: &PlacedTypes) -> Result<Vec<u8>, Stop<Ref
 }
 
 // The image of what is declared, or what is broken in it first: made names, rules, limits.
-fn image_of_placed(alloc: Global, placed: &Placed) -> Result<Vec<u8>, Stop<Refusal>>
-    requires apart { NamesApart placed.now }
-    requires places { HasPlaces placed.now }
-    ensures made { IfOk result (λ bytes. MadeOf placed.now bytes.items) }
-    ensures refused { IfErr result (λ stop. RefusedOfTypes placed.now stop) }
+fn image_of_placed(alloc: Global, placed: Placed) -> Result<Vec<u8>, Stop<Refusal>>
+    requires apart { NamesApart placed }
+    requires places { HasPlaces placed }
+    ensures made { IfOk result (λ bytes. MadeOf placed bytes.items) }
+    ensures refused { IfErr result (λ stop. RefusedOfTypes placed stop) }
 {
-    let full = full(alloc, placed)?;
+    let full = full(alloc, &placed)?;
+    drop(placed);
     image_of_types(alloc, &full)
 }
 
-/// The image of what the files declare, or the first fault of the set: names, made names, rules, limits.
-pub(crate) fn image_of_set(alloc: Global, files: &[File]) -> Result<Vec<u8>, Stop<Refusal>>
-    ensures made { IfOk result (λ bytes. Made (sources_of files.now) bytes.items) }
-    ensures refused { IfErr result (λ stop. RefusedFirst (sources_of files.now) stop) }
+/// The image of what the files declare, or the first fault of the set: names, made names, rules, limits. No phase keeps what the one before it began with.
+pub(crate) fn image_of_set(alloc: Global, files: Vec<File>) -> Result<Vec<u8>, Stop<Refusal>>
+    ensures made { IfOk result (λ bytes. Made (sources_of files.items) bytes.items) }
+    ensures refused { IfErr result (λ stop. RefusedFirst (sources_of files.items) stop) }
 {
-    let placed = resolve(alloc, files)?;
-    image_of_placed(alloc, &placed)
+    let placed = resolve(alloc, &files)?;
+    drop(files);
+    image_of_placed(alloc, placed)
 }
