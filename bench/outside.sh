@@ -1,15 +1,38 @@
 #!/usr/bin/env bash
 # What other readers of images say of IMAGE: those of them that are installed.
 #   bench/outside.sh IMAGE
-# monodis, ikdasm and Mono.Cecil come with Mono (Debian: mono-utils, mono-devel, libmono-cecil-cil), pefile with python3-pefile, objdump with binutils.
+# monodis, ikdasm and Mono.Cecil come with Mono (Debian: mono-utils, mono-devel, libmono-cecil-cil), dnlib with libdnlib2.1-cil, pefile with python3-pefile,
+# objdump with binutils. monodis looks for the types of Windows that signatures and attributes name, and stops at the first event where it doesn't find
+# them, so mcs (mono-mcs) makes an assembly with them first, from what Windows documents of these.
 image=${1:?usage: bench/outside.sh IMAGE}
 has() { command -v "$1" > /dev/null; }
 say() { printf '\n== %s\n' "$1"; }
 
+room=$(mktemp -d)
+trap 'rm -rf "$room"' EXIT
+if has mcs; then
+    cat > "$room/windows.cs" << 'CODE'
+using System;
+[assembly: System.Reflection.AssemblyVersion("255.255.255.255")]
+namespace Windows.Foundation {
+    public struct EventRegistrationToken { public long Value; }
+}
+namespace Windows.Foundation.Metadata {
+    public class ActivatableAttribute : Attribute { public ActivatableAttribute(uint version) {} public ActivatableAttribute(Type factory, uint version) {} }
+    public class DefaultAttribute : Attribute {}
+    public class ExclusiveToAttribute : Attribute { public ExclusiveToAttribute(Type name) {} }
+    public class GuidAttribute : Attribute { public GuidAttribute(uint a, ushort b, ushort c, byte d, byte e, byte f, byte g, byte h, byte i, byte j, byte k) {} }
+    public class OverloadAttribute : Attribute { public OverloadAttribute(string method) {} }
+    public class StaticAttribute : Attribute { public StaticAttribute(Type type, uint version) {} }
+    public class VersionAttribute : Attribute { public VersionAttribute(uint version) {} }
+}
+CODE
+    mcs -target:library -out:"$room/Windows.Foundation.FoundationContract.dll" "$room/windows.cs" && export MONO_PATH=$room
+fi
 if has monodis; then
     say "$(monodis --version 2>&1 | head -1)"
     monodis "$image"
-    for table in typedef typeref method field property event methodsem interface constant customattr memberref assembly assemblyref module; do
+    for table in typedef typeref method fields property event methodsem interface constant customattr memberref assembly assemblyref module; do
         say "monodis --$table"
         monodis "--$table" "$image"
     done
