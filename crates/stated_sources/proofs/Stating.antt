@@ -1,5 +1,5 @@
 -- The full types of items have paths as names, lists in order, and declared owners.
-use Rattle.std.proofs.Common.{◌≡◌, ℕ, zero, suc, ◌+◌, Bool, true, false, IsTrue, List, [], ◌∷◌, ◌++◌, Option, Some, None, map, length, codes, get_or, refl, sym, ap, subst, ◌∙◌, arith}
+use Rattle.std.proofs.Common.{◌≡◌, ℕ, zero, suc, ◌+◌, Bool, true, false, IsTrue, List, [], ◌∷◌, ◌++◌, Option, Some, None, map, length, codes, get_or, inl, refl, sym, ap, subst, ◌∙◌, arith}
 use Rattle.std.specs.Prelude.{⊤}
 use Rattle.std.specs.List.{All, AllZip, AllAdjacentBelow, Contains, flat_map, list_all}
 use Rattle.std.specs.List.Sorted.{IsPermutation}
@@ -240,7 +240,7 @@ site_named (d ∷ ds) (p ∷ ps) name (s, (suc k, l, e), i) = Contains-append_ri
 
 site_owned : (types : List Declaration) (places : List DeclPlaces) (o : Option (List ℕ)) → Owned (sites_of types places) o → IsOwned types o
 site_owned types places None h = tt
-site_owned types places (Some owner) h = site_named types places owner h
+site_owned types places (Some owner) h = inl (site_named types places owner h)
 
 module _ (items : List PlacedItem) (types : List Declaration) (places : List DeclPlaces) (pathed : ArePathed items) (unowned : All (λ (i : PlacedItem). HasNoOwner i.item) items) (full : IsFull items types places) where
   ordered : List Site

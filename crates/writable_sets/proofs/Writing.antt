@@ -62,7 +62,8 @@ module _ (types : List Declaration) (accepted : Accepted types) (stated : All (I
 
   owner_fits : (o : Option (List ℕ)) → IsOwned types o → OwnerFits o
   owner_fits None h = tt
-  owner_fits (Some owner) h = All-contains IsName (map name_of types) owner (All-map IsName name_of types own) h
+  owner_fits (Some owner) (inl h) = All-contains IsName (map name_of types) owner (All-map IsName name_of types own) h
+  owner_fits (Some owner) (inr h) = h
 
   known : (k : ℕ) (d : Declaration) → k < length types → Known (get_or types k d) (plain_site types k d).places
   known k d l = record {

@@ -1,9 +1,10 @@
 -- What rows state of a declaration that no rule asks.
-use Rattle.std.specs.Prelude.{◌≡◌, ◌<◌, ◌^◌, ℕ, true, false, ⊤, List, Option, Some, None, map}
+use Rattle.std.specs.Prelude.{◌≡◌, ◌<◌, ◌^◌, ◌⊎◌, ℕ, true, false, ⊤, List, Option, Some, None, map}
 use Rattle.std.specs.List.{All, Contains}
 use Rattle.std.specs.Str.{bytes_eq}
 use Rattle.sig_blobs.specs.Elements.{system_guid}
 use Rattle.winmd_lines.specs.Orders.{Rising}
+use Rattle.winmd_sets.specs.Fits.{IsName}
 use Rattle.wr_base.specs.Declarations.{name_of}
 use Rattle.wr_base.specs.Paths.{is_path}
 use Rattle.wr_base.specs.Places.{plain_from}
@@ -49,12 +50,12 @@ owner_of (Struct name version fields) = None
 owner_of (Delegate name version id invoke) = None
 owner_of (Class name version fixed default has direct factories statics) = None
 
--- it is declared
+-- it is declared, or a path within the limits, as of an image that doesn't declare it
 abbrev pub IsOwned : List Declaration → Option (List ℕ) → Type 0
 IsOwned types None = ⊤
-IsOwned types (Some owner) = Contains (map name_of types) owner
+IsOwned types (Some owner) = Contains (map name_of types) owner ⊎ IsName owner
 
--- a declaration of a set whose full name is a path, with its widths, lists in order and a declared owner
+-- a declaration of a set whose full name is a path, with its widths, lists in order and an owner that rows can state
 pub record IsStated (types : List Declaration) (d : Declaration) : Type 0 where
   pub path : is_path (name_of d) ≡ true
   pub widths : HasWidths d
