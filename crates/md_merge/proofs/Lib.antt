@@ -1,2 +1,3 @@
 pub mod UnionLaws
 pub mod MergeLaws
+pub mod Examples

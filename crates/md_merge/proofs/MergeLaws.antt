@@ -50,7 +50,7 @@ one_of_name types a b order c d e =
     same_Some a b (sym (finds types p.0 a (name_of a) order (slice_get-map name_of types p.0 ∙ ap (option_map name_of) p.1) p.1)
     ∙ finds types q.0 b (name_of a) order (slice_get-map name_of types q.0 ∙ ap (option_map name_of) q.1 ∙ ap Some (sym e)) q.1)
 
-no_conflict : (sets : List (List Declaration)) (types : List Declaration) (name : List ℕ) → IsUnion sets types → Conflicts sets name → ⊥
+pub no_conflict : (sets : List (List Declaration)) (types : List Declaration) (name : List ℕ) → IsUnion sets types → Conflicts sets name → ⊥
 no_conflict sets types name u c = c.apart (one_of_name types c.one c.other u.order (u.whole c.one c.one_declared) (u.whole c.other c.other_declared) (c.one_named ∙ sym c.other_named))
 
 least_by : (sets : List (List Declaration)) (a b : List ℕ) (r : Ordering) → slice_cmp nat_cmp a b ≡ r → LeastConflict sets a → LeastConflict sets b → a ≡ b
