@@ -3,5 +3,4 @@ pub mod EndLemmas
 mod SourceLaws
 mod SetLemmas
 mod OwedLemmas
-mod WordLemmas
 mod WordsOwed

@@ -8,6 +8,5 @@ mod said;
 mod say;
 mod set;
 mod tool;
-mod words;
 
 pub use tool::winrt_tool;
