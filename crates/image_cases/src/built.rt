@@ -1,10 +1,11 @@
-//! `built NUMBER=ROW,ROW NUMBER=ROW ..;TEXTS;BLOBS` prints what the plain reader finds in an image with these tables and further entries of `#Strings` and
-//! `#Blob`. The bytes of rows are hexadecimal, and tables stand in the order of their numbers.
+//! `built NUMBER=ROW,ROW NUMBER=ROW ..;TEXTS;BLOBS;BITS` prints what is read from an image with these tables and further entries of `#Strings` and
+//! `#Blob`, and with these bits for wide indices into heaps, of which none is set where they are left out. The bytes of rows are hexadecimal, and tables
+//! stand in the order of their numbers. `rebase` before the same says that this is the image which is edited from here on.
 
 use crate::images::push_found;
 use crate::parts::Parts;
 use crate::schema::table_of;
-use case_text::{bytes_of, halves, push_bytes};
+use case_text::{bytes_of, decimal, halves, push_bytes};
 use md_schema::Table;
 use std::alloc::{AllocError, Global};
 
@@ -39,13 +40,16 @@ fn push_tables(parts: &mut Parts, alloc: Global, tables: &str) -> Result<(), All
 
 fn fill(parts: &mut Parts, alloc: Global, case: &str) -> Result<(), AllocError> {
     let (tables, rest) = halves(case);
-    let (texts, blobs) = halves(rest);
+    let (texts, rest) = halves(rest);
+    let (blobs, bits) = halves(rest);
+    parts.bits = (decimal(bits) % 8) as u8;
     parts.texts = bytes_of(alloc, texts)?;
     parts.blobs = bytes_of(alloc, blobs)?;
     push_tables(parts, alloc, tables)
 }
 
-fn image(alloc: Global, base: &[u8], case: &str) -> Result<Vec<u8>, AllocError> {
+/// The image with these parts.
+pub fn image(alloc: Global, base: &[u8], case: &str) -> Result<Vec<u8>, AllocError> {
     let mut parts = Parts::new(alloc);
     fill(&mut parts, alloc, case)?;
     parts.image(alloc, base)

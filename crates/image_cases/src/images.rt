@@ -1,11 +1,14 @@
-//! `base LENGTH;EDITS` says which image is edited: so many zeros with these edits. `edit OFFSET=BYTES|OFFSET=BYTES ..` prints what the plain reader finds in that
+//! `base LENGTH;EDITS` says which image is edited: so many zeros with these edits. `edit OFFSET=BYTES|OFFSET=BYTES ..` prints what is read from that
 //! image with edits, `cuts` what it finds at each shorter length. Offsets are hexadecimal.
 
+use crate::classes::declared;
 use crate::numbers::push_fault;
-use case_text::{bytes_of, decimal, declaration, halves, hexadecimal};
-use plain_reader::{Unread, types_of};
+use case_text::{bytes_of, decimal, halves, hexadecimal};
+use md_schema::ImageFault;
+use ranked::Stop;
 use std::alloc::{AllocError, Global};
-use wr_base::Declaration;
+use winmd_read::types_of;
+use wr_base::Types;
 
 /// Writes bytes over those at an offset.
 pub fn write(image: &mut [u8], at: usize, bytes: &[u8]) {
@@ -38,32 +41,26 @@ pub fn base(alloc: Global, case: &str) -> Result<Vec<u8>, AllocError> {
     Ok(image)
 }
 
-fn push_types(out: &mut String, types: &[Declaration]) -> Result<(), AllocError> {
-    for one in types {
-        declaration(out, one)?;
+fn push_types(out: &mut String, types: &Types) -> Result<(), AllocError> {
+    for i in 0..types.len() {
+        declared(out, types.at(i))?;
         out.push_str("|")?;
     }
     Ok(())
 }
 
-fn push_not_yet(out: &mut String, offset: u64) -> Result<(), AllocError> {
-    let alloc = *out.allocator();
-    out.push_str(format!(in alloc; "NotYet at {offset:x}")?.as_str())
-}
-
-fn push_unread(out: &mut String, unread: &Unread) -> Result<(), AllocError> {
-    match unread {
-        Unread::Fault(fault) => push_fault(out, fault),
-        Unread::NotYet { offset } => push_not_yet(out, *offset),
-        _ => out.push_str("memory"),
+fn push_stop(out: &mut String, stop: &Stop<ImageFault>) -> Result<(), AllocError> {
+    match stop {
+        Stop::Refused(fault) => push_fault(out, fault),
+        Stop::Memory => out.push_str("memory"),
     }
 }
 
-/// What the plain reader finds in an image: types, the first fault, or one that it doesn't read yet.
+/// What is read from an image: its types, or the first fault.
 pub fn push_found(out: &mut String, image: &[u8]) -> Result<(), AllocError> {
     match types_of(*out.allocator(), image) {
         Ok(types) => push_types(out, &types),
-        Err(unread) => push_unread(out, &unread),
+        Err(stop) => push_stop(out, &stop),
     }
 }
 

@@ -1,13 +1,13 @@
-//! `cases NAME;CASES;CONSTANTS` prints the sizes of the types that the plain reader finds in the image of `Shop.Size` with so many cases, each of the name at that
+//! `cases NAME;CASES;CONSTANTS` prints the sizes of the types that are read from the image of `Shop.Size` with so many cases, each of the name at that
 //! index of `#Strings`, and with so many constants.
 
 use crate::images::push_found;
 use crate::parts::Parts;
 use case_text::{decimal, halves};
 use md_schema::Table;
-use plain_reader::types_of;
 use std::alloc::{AllocError, Global};
-use wr_base::Declaration;
+use winmd_read::types_of;
+use wr_base::{Declaration, Types};
 
 /// System.Enum.
 const ENUM_REF: &[u8] = &[6, 0, 0x0D, 0, 0x12, 0];
@@ -87,9 +87,9 @@ fn push_lengths(out: &mut String, declaration: &Declaration) -> Result<(), Alloc
     out.push_str(format!(in alloc; "name {name} cases {count} first {first}|")?.as_str())
 }
 
-fn push_all_lengths(out: &mut String, types: &[Declaration]) -> Result<(), AllocError> {
-    for declaration in types {
-        push_lengths(out, declaration)?;
+fn push_all_lengths(out: &mut String, types: &Types) -> Result<(), AllocError> {
+    for i in 0..types.len() {
+        push_lengths(out, types.at(i))?;
     }
     Ok(())
 }

@@ -3,6 +3,7 @@
 #![tactic(auto)]
 
 mod built;
+mod classes;
 mod heap_texts;
 mod heaps;
 mod images;
@@ -93,11 +94,17 @@ fn set_base(base: &mut Vec<u8>, case: &str) -> io::Result<()> {
     Ok(())
 }
 
+fn set_built(base: &mut Vec<u8>, case: &str) -> io::Result<()> {
+    *base = built::image(*base.allocator(), base, case)?;
+    Ok(())
+}
+
 fn line_answer(rt: &HostRuntime, base: &mut Vec<u8>, line: &str) -> io::Result<()> {
     let (command, case) = line.split_once(' ').unwrap_or((line, ""));
     match command {
         "#" => println!(rt; "{line}"),
         "base" => set_base(base, case),
+        "rebase" => set_built(base, case),
         _ => answer(rt, base, command, case),
     }
 }

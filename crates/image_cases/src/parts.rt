@@ -18,7 +18,8 @@ const END: usize = 0x494;
 /// What an image is built from.
 #[derive(Debug, Drop)]
 pub struct Parts {
-    /// Valid (ECMA-335 II.24.2.6).
+    /// Which indices into heaps have four bytes, and Valid (ECMA-335 II.24.2.6).
+    pub bits: u8,
     valid: u64,
     /// The row counts, and the rows, of the tables so far.
     counts: Vec<u8>,
@@ -74,6 +75,7 @@ impl Parts {
     /// No table, and the heaps of the image of `Shop.Size`.
     pub fn new(alloc: Global) -> Parts {
         Parts {
+            bits: 0,
             valid: 0,
             counts: Vec::new(alloc),
             rows: Vec::new(alloc),
@@ -93,9 +95,9 @@ impl Parts {
         self.rows.extend_from_slice(bytes)
     }
 
-    /// The stream `#~`, with indices of two bytes into the heaps.
+    /// The stream `#~`.
     fn put_tables(&self, stream: &mut Vec<u8>) -> Result<(), AllocError> {
-        stream.extend_from_slice(&[0, 0, 0, 0, 2, 0, 0, 1])?;
+        stream.extend_from_slice(&[0, 0, 0, 0, 2, 0, self.bits, 1])?;
         put(stream, self.valid, 8)?;
         put(stream, 0, 8)?;
         stream.extend_from_slice(&self.counts)?;

@@ -1,5 +1,5 @@
 -- The worked example with some of its bytes written over, and what its image then states: enums, a fault with its offset, or a type that isn't read so
--- far. The plain reader is tried on the same.
+-- far.
 use Rattle.std.specs.Prelude.{ℕ, ◌+◌, List, [], ◌∷◌, ◌++◌, length, take, drop, codes, true, false, negsuc, Result, Ok, Err}
 use Rattle.std.specs.List.{fold}
 use Rattle.md_schema.specs.declared.faults.ImageKind.TheVariants as kinds

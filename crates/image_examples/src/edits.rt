@@ -1,4 +1,4 @@
-//! What the definition says of the edits of the example, on which the plain reader is tried too.
+//! What the definition says of the edits of the example of one enum.
 
 ghost use Rattle.std.specs.Prelude.{◌≡◌, map};
 ghost use Rattle.image_examples.specs.Edits.{found, headers, others, rows, states, stream, wanted};

@@ -1,11 +1,11 @@
 //! `image` prints for the case of `tool` the status, how many bytes stand on out and in `a.winmd`, and what stands on err. `bytes OFFSET:LENGTH ..;` before the
-//! same prints how long `a.winmd` is and bytes of it, and `reread` what the plain reader finds in it.
+//! same prints how long `a.winmd` is and bytes of it, and `reread` what is read from it.
 
 use crate::tool::{Run, run_of};
 use case_text::{decimal, declaration, halves, push_runs};
-use plain_reader::types_of;
 use std::alloc::AllocError;
-use wr_base::Declaration;
+use winmd_read::types_of;
+use wr_base::Types;
 
 fn push_lengths(out: &mut String, run: &Run) -> Result<(), AllocError> {
     let alloc = *out.allocator();
@@ -52,9 +52,9 @@ pub fn bytes(out: &mut String, case: &str) -> Result<(), AllocError> {
     push_parts(out, run.image().unwrap_or(&[]), places)
 }
 
-fn push_types(out: &mut String, types: &[Declaration]) -> Result<(), AllocError> {
-    for one in types {
-        declaration(out, one)?;
+fn push_types(out: &mut String, types: &Types) -> Result<(), AllocError> {
+    for i in 0..types.len() {
+        declaration(out, types.at(i))?;
         out.push_str("|")?;
     }
     Ok(())

@@ -1,0 +1,9 @@
+use Rattle.std.proofs.Common.{subst, map}
+use Rattle.winmd_cells.specs.Given.{Gives}
+use Rattle.winmd_lines.specs.Cells.{Tables}
+use Rattle.winmd_sets.specs.Types.{types_of}
+use Rattle.wr_base.specs.Trees.{decl_tree}
+use Rattle.winmd_read.proofs.streams.view_types.Goals as goal
+
+pub returns : goal.returns
+returns c = subst (λ (t : Tables). Gives (map decl_tree) c.image_types.result (types_of t)) c.new.ensures c.image_types.ensures
