@@ -1,6 +1,6 @@
 //! What is written is read again: the image of a set, read, is the set.
 #![tactic(auto)]
 
-mod reread;
+mod again;
 
-pub use reread::reread;
+pub use again::reread;

@@ -12,7 +12,6 @@ use winmd_write::image_of;
 use wr_base::Types;
 
 // The types of an image that states these.
-#[tactic(auto, using(crate::proofs::SameTypes::same_types))]
 fn read_again(alloc: Global, types: &Types, image: &[u8]) -> Result<Types, Memory>
     requires { TypesOf image.now ≡ Ok (map decl_tree types.now) }
     ensures { IfOk result (λ read. read ≡ types.now) }
