@@ -1,5 +1,5 @@
 -- All rows, and all steps, in turn.
-use Rattle.std.proofs.Common.{◌≡◌, ℕ, Bool, List, map, length, Result, Ok, Err, refl}
+use Rattle.std.proofs.Common.{◌≡◌, ℕ, List, map, length, Result, Ok, Err, refl}
 use Rattle.md_schema.specs.Tables.{upto}
 use Rattle.md_schema.specs.declared.table.Table.{Table}
 use Rattle.md_schema.specs.declared.table.Table.TheVariants as tables
@@ -11,7 +11,6 @@ use Rattle.winmd_lists.specs.Begun.{well}
 use Rattle.winmd_rows.specs.Faults.{Fault, ◌>>=◌, each, somes}
 use Rattle.winmd_set.specs.Order.{set_in}
 use Rattle.winmd_sets.specs.Types.{all_begin, none_generic, type_of, types_of}
-use Rattle.wr_base.specs.Trees.{DeclTree}
 use Rattle.winmd_read.specs.InTurn.{types_in_turn}
 
 pub all_seen : (image : Image) (table : Table) (rows : List ℕ) → rows ≡ upto 1 (length ((tables_in image).rows table)) → map (seen image table) rows ≡ all_rows (tables_in image) table

@@ -1,5 +1,5 @@
 -- Declarations are known by their trees.
-use Rattle.std.proofs.Common.{◌≡◌, List, [], ◌∷◌, map, Result, Ok, refl, ap}
+use Rattle.std.proofs.Common.{◌≡◌, List, [], ◌∷◌, map, Result, Ok, refl}
 use Rattle.winmd_rows.specs.Faults.{Fault}
 use Rattle.wr_base.specs.declared.declaration.Declaration.{Declaration}
 use Rattle.wr_base.specs.Trees.{DeclTree, decl_tree}
