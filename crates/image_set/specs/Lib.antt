@@ -1,0 +1,4 @@
+pub mod Images
+pub mod Lines
+pub mod Stops
+pub mod Turns
