@@ -1,2 +1,3 @@
 mod TurnLemmas
 mod LoopLemmas
+pub mod OutcomeLaws

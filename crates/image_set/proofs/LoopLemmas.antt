@@ -1,11 +1,10 @@
 -- Images one after the other.
-use Rattle.std.proofs.Common.{◌≡◌, ℕ, suc, ◌+◌, ◌<◌, List, [], ◌∷◌, ◌++◌, length, map, Option, Result, Ok, Err, String, string_bytes, refl, sym, ap, subst, ◌∙◌, append_assoc, append-nil, arith}
-use Rattle.std.specs.declared.alloc.Global.{Global}
+use Rattle.std.proofs.Common.{◌≡◌, ℕ, suc, ◌+◌, ◌<◌, List, [], ◌∷◌, ◌++◌, length, Option, Ok, Err, refl, sym, ap, subst, ◌∙◌, append_assoc, append-nil, arith}
 use Rattle.wr_base.specs.declared.declaration.Declaration.{Declaration}
 use Rattle.wr_outside.specs.Files.{Files}
 use Rattle.image_set.specs.declared.stop.ImageStop.{ImageStop}
 use Rattle.image_set.specs.declared.stop.ImageStop.TheVariants.{TooMany, Missing, TooLong, ReadFault, Faulty, Memory}
-use Rattle.image_set.specs.Images.{AreTaken, IsTaken, MayRead, TakenFrom, Reaches, Awaits, FirstEvent, StopsAt, StopsBy, Event, too_many, missing, too_long, faulty, most_images}
+use Rattle.image_set.specs.Images.{AreTaken, IsTaken, MayRead, TakenFrom, Awaits, FirstEvent, StopsAt, StopsBy, Event, too_many, missing, too_long, faulty, most_images}
 use Rattle.image_set.specs.Stops.{StopIs}
 use Rattle.image_set.specs.Turns.{Turn, TurnIs}
 

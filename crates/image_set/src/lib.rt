@@ -3,11 +3,13 @@
 #![tactic(auto)]
 
 mod kinds;
+mod laws;
 mod lines;
 mod reading;
 mod set;
 mod stop;
 
+pub use laws::one_outcome;
 pub use lines::fault_line;
 pub use set::images;
 pub use stop::ImageStop;

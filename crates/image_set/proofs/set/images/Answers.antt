@@ -1,6 +1,5 @@
-use Rattle.std.proofs.Common.{◌≡◌, ◌∷◌, ◌++◌, ◌∙◌, List, ℕ, [], Ok, Err, IfErr, ap, map, string_bytes, subst, sym, length, arith}
+use Rattle.std.proofs.Common.{◌∷◌, ◌∙◌, List, ℕ, Ok, Err, ap, map, string_bytes, subst, sym, length, arith}
 use Rattle.std.proofs.lemmas.Result.{err_from_is_err_and}
-use Rattle.wr_base.specs.declared.declaration.Declaration.{Declaration}
 use Rattle.image_set.specs.Stops.{StopIs}
 use Rattle.image_set.specs.Turns.{Turn}
 use Rattle.image_set.proofs.LoopLemmas.{Progress, more, stops}

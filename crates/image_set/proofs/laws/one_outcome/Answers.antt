@@ -1,0 +1,8 @@
+use Rattle.image_set.proofs.OutcomeLaws.{same_sets, none_stops}
+use Rattle.image_set.proofs.laws.one_outcome.Goals as goal
+
+pub returns : goal.returns
+returns c = record {
+  sets = λ files words one other. same_sets files 0 words one other;
+  event = λ files words sets name event. none_stops files words sets name event;
+}
