@@ -4,6 +4,7 @@ pub mod Layouts
 pub mod Spelling
 pub mod Outside
 pub mod Edits
+pub mod SizeEdits
 pub mod ShopEdits
 pub mod MixEdits
 pub mod Built

@@ -1,79 +1,76 @@
--- The worked example with some of its bytes written over, and what its image then states: enums, a fault with its offset, or a type that isn't read so
--- far.
-use Rattle.std.specs.Prelude.{ℕ, ◌+◌, List, [], ◌∷◌, ◌++◌, length, take, drop, codes, true, false, negsuc, Result, Ok, Err}
-use Rattle.std.specs.List.{fold}
+-- The image of one enum with some of its bytes written over, and what it then states. Offsets and answers were worked out by hand from ECMA-335 II.22
+-- to II.25; `image_cases` tries the reader on the same.
+use Rattle.std.specs.Prelude.{List, [], ◌∷◌, codes, true, false, pos, negsuc, None, Result, Ok}
 use Rattle.md_schema.specs.declared.faults.ImageKind.TheVariants as kinds
-use Rattle.wr_base.specs.declared.declaration.Declaration.{Declaration}
-use Rattle.wr_base.specs.declared.declaration.Declaration.TheVariants.{Enum}
-use Rattle.winmd_rows.specs.Faults.{Fault, NotYet, fault}
-use Rattle.winmd_laws.specs.Examples.{case_of, shop_image, shop_size}
-use Rattle.winmd_laws.specs.Meaning.{TypesOf}
+use Rattle.wr_base.specs.declared.type_use.Base.TheVariants as bases
+use Rattle.wr_base.specs.Trees.{plain, value, DeclTree, enum, struct, class}
+use Rattle.winmd_rows.specs.Faults.{Fault, fault}
+use Rattle.winmd_sets.specs.Shop.{case_of, field_of}
+use Rattle.winmd_examples.specs.Edits.{Edited, found_in}
+use Rattle.winmd_examples.specs.Layouts.{one_section, size_7}
+use Rattle.winmd_examples.specs.Size.{size}
 
--- bytes that are written at an offset
-abbrev pub Edit : Type 0
-Edit = ℕ × List ℕ
+abbrev pub found : Edited → Result (List DeclTree) Fault
+found e = found_in one_section e
 
-abbrev pub edited : List ℕ → Edit → List ℕ
-edited bytes edit = take edit.0 bytes ++ edit.1 ++ drop (edit.0 + length edit.1) bytes
+-- ---- what it states beside the enum as it is
 
-abbrev pub Edited : Type 0
-Edited = List Edit × Result (List Declaration) Fault
+abbrev pub of_two_cases : DeclTree
+of_two_cases = enum (codes "Shop.Size") 1 false (case_of (codes "Small") (pos 0) ∷ case_of (codes "Medium") (pos 5) ∷ [])
 
--- what the edited image states by the definition, and what stands beside the edits
-abbrev pub found : Edited → Result (List Declaration) Fault
-found e = TypesOf (fold edited shop_image e.0)
+abbrev pub unsigned : DeclTree
+unsigned = enum (codes "Shop.Size") 1 true (case_of (codes "Small") (pos 0) ∷ case_of (codes "Medium") (pos 5) ∷ case_of (codes "Large") (pos 2147483654) ∷ [])
 
-abbrev pub wanted : Edited → Result (List Declaration) Fault
-wanted e = e.1
+abbrev pub signed : DeclTree
+signed = enum (codes "Shop.Size") 1 false (case_of (codes "Small") (pos 0) ∷ case_of (codes "Medium") (pos 5) ∷ case_of (codes "Large") (negsuc 2147483641) ∷ [])
 
-abbrev pub of_version_7 : Declaration
-of_version_7 = Enum (codes "Shop.Size") 7 false (case_of (codes "Small") 0 ∷ case_of (codes "Medium") 5 ∷ case_of (codes "Large") 6 ∷ [])
+-- a struct of the enum's fields, and a class
+abbrev pub of_fields : DeclTree
+of_fields =
+    struct (codes "Shop.Size") 1 (field_of (codes "value__") (plain bases.I32) ∷ field_of (codes "Small") (value (codes "Shop.Size"))
+    ∷ field_of (codes "Medium") (value (codes "Shop.Size")) ∷ field_of (codes "Large") (value (codes "Shop.Size")) ∷ [])
 
-abbrev pub unsigned : Declaration
-unsigned = Enum (codes "Shop.Size") 1 true (case_of (codes "Small") 0 ∷ case_of (codes "Medium") 5 ∷ case_of (codes "Large") 2147483654 ∷ [])
+abbrev pub without_members : DeclTree
+without_members = class (codes "Shop.Size") 1 false None [] false [] []
 
-abbrev pub signed : Declaration
-signed = Enum (codes "Shop.Size") 1 false (case_of (codes "Small") 0 ∷ case_of (codes "Medium") 5 ∷ (record { name = codes "Large"; value = negsuc 2147483641 }) ∷ [])
-
-abbrev pub of_two_cases : Declaration
-of_two_cases = Enum (codes "Shop.Size") 1 false (case_of (codes "Small") 0 ∷ case_of (codes "Medium") 5 ∷ [])
+-- ---- the edits
 
 -- Edits that leave an enum, or no type.
 abbrev pub states : List Edited
 states =
-    ([], Ok (shop_size ∷ [])) ∷
+    ([], Ok (size ∷ [])) ∷
     -- The time stamp of the file header, and another version of the runtime.
-    ((0x88, 1 ∷ []) ∷ (0x269, 51 ∷ []) ∷ [], Ok (shop_size ∷ [])) ∷
+    ((0x88, 1 ∷ []) ∷ (0x269, 51 ∷ []) ∷ [], Ok (size ∷ [])) ∷
     -- No bytes behind the rows; Sorted; `#US` of another name; a second `#~`.
-    ((0x274, 226 ∷ []) ∷ [], Ok (shop_size ∷ [])) ∷
-    ((0x2CC, 1 ∷ 2 ∷ 3 ∷ 4 ∷ 5 ∷ 6 ∷ 7 ∷ 8 ∷ []) ∷ [], Ok (shop_size ∷ [])) ∷
-    ((0x299, 88 ∷ 89 ∷ []) ∷ [], Ok (shop_size ∷ [])) ∷
-    ((0x299, 126 ∷ 0 ∷ []) ∷ [], Ok (shop_size ∷ [])) ∷
+    ((0x274, 226 ∷ []) ∷ [], Ok (size ∷ [])) ∷
+    ((0x2CC, 1 ∷ 2 ∷ 3 ∷ 4 ∷ 5 ∷ 6 ∷ 7 ∷ 8 ∷ []) ∷ [], Ok (size ∷ [])) ∷
+    ((0x299, 88 ∷ 89 ∷ []) ∷ [], Ok (size ∷ [])) ∷
+    ((0x299, 126 ∷ 0 ∷ []) ∷ [], Ok (size ∷ [])) ∷
     -- The value of the attribute is 7; then it has 6 bytes; the attribute stands on `<Module>`; is of System.Enum; of the enum itself; has no row.
-    ((0x483, 7 ∷ []) ∷ [], Ok (of_version_7 ∷ [])) ∷
-    ((0x483, 7 ∷ []) ∷ (0x480, 6 ∷ []) ∷ [], Ok (of_version_7 ∷ [])) ∷
-    ((0x483, 7 ∷ []) ∷ (0x35A, 35 ∷ []) ∷ [], Ok (shop_size ∷ [])) ∷
-    ((0x483, 7 ∷ []) ∷ (0x342, 9 ∷ []) ∷ [], Ok (shop_size ∷ [])) ∷
-    ((0x483, 7 ∷ []) ∷ (0x342, 16 ∷ []) ∷ [], Ok (shop_size ∷ [])) ∷
-    ((0x483, 7 ∷ []) ∷ (0x2EC, 0 ∷ []) ∷ [], Ok (shop_size ∷ [])) ∷
+    ((0x483, 7 ∷ []) ∷ [], Ok (size_7 ∷ [])) ∷
+    ((0x483, 7 ∷ []) ∷ (0x480, 6 ∷ []) ∷ [], Ok (size_7 ∷ [])) ∷
+    ((0x483, 7 ∷ []) ∷ (0x35A, 35 ∷ []) ∷ [], Ok (size ∷ [])) ∷
+    ((0x483, 7 ∷ []) ∷ (0x342, 9 ∷ []) ∷ [], Ok (size ∷ [])) ∷
+    ((0x483, 7 ∷ []) ∷ (0x342, 16 ∷ []) ∷ [], Ok (size ∷ [])) ∷
+    ((0x483, 7 ∷ []) ∷ (0x2EC, 0 ∷ []) ∷ [], Ok (size ∷ [])) ∷
     -- Of System.Enum, with a value past the heap, and one of another prolog: neither is looked at.
-    ((0x342, 9 ∷ []) ∷ (0x35E, 48 ∷ []) ∷ [], Ok (shop_size ∷ [])) ∷
-    ((0x342, 9 ∷ []) ∷ (0x481, 2 ∷ []) ∷ [], Ok (shop_size ∷ [])) ∷
+    ((0x342, 9 ∷ []) ∷ (0x35E, 48 ∷ []) ∷ [], Ok (size ∷ [])) ∷
+    ((0x342, 9 ∷ []) ∷ (0x481, 2 ∷ []) ∷ [], Ok (size ∷ [])) ∷
     -- An attribute of `<Module>` isn't looked at: its constructor past the table.
-    ((0x35A, 35 ∷ []) ∷ (0x35C, 19 ∷ []) ∷ [], Ok (shop_size ∷ [])) ∷
+    ((0x35A, 35 ∷ []) ∷ (0x35C, 19 ∷ []) ∷ [], Ok (size ∷ [])) ∷
     -- `value__` and the constants of U4, and the highest bit of the last value; that bit where they are of I4.
     ((0x467, 9 ∷ []) ∷ (0x348, 9 ∷ []) ∷ (0x34E, 9 ∷ []) ∷ (0x354, 9 ∷ []) ∷ (0x47F, 128 ∷ []) ∷ [], Ok (unsigned ∷ [])) ∷
     ((0x47F, 128 ∷ []) ∷ [], Ok (signed ∷ [])) ∷
     -- The second byte of a row of Constant isn't looked at.
-    ((0x349, 1 ∷ []) ∷ [], Ok (shop_size ∷ [])) ∷
+    ((0x349, 1 ∷ []) ∷ [], Ok (size ∷ [])) ∷
     -- The value of Small has a length of two bytes: `80 04` over the end of a token that isn't read, at the index 0x29.
-    ((0x48D, 128 ∷ 4 ∷ 0 ∷ 0 ∷ 0 ∷ 0 ∷ []) ∷ (0x34C, 41 ∷ []) ∷ [], Ok (shop_size ∷ [])) ∷
+    ((0x48D, 128 ∷ 4 ∷ 0 ∷ 0 ∷ 0 ∷ 0 ∷ []) ∷ (0x34C, 41 ∷ []) ∷ [], Ok (size ∷ [])) ∷
     -- The signature of `value__` has modifiers (II.23.2.7), written over that token, at the index 0x25: an optional one with a token of one
     -- byte; a required one with two bytes; with four; two of them, the second with the token 8.
-    ((0x32E, 37 ∷ []) ∷ (0x489, 4 ∷ 6 ∷ 32 ∷ 9 ∷ 8 ∷ []) ∷ [], Ok (shop_size ∷ [])) ∷
-    ((0x32E, 37 ∷ []) ∷ (0x489, 5 ∷ 6 ∷ 31 ∷ 128 ∷ 129 ∷ 8 ∷ []) ∷ [], Ok (shop_size ∷ [])) ∷
-    ((0x32E, 37 ∷ []) ∷ (0x489, 7 ∷ 6 ∷ 31 ∷ 192 ∷ 0 ∷ 64 ∷ 1 ∷ 8 ∷ []) ∷ [], Ok (shop_size ∷ [])) ∷
-    ((0x32E, 37 ∷ []) ∷ (0x489, 6 ∷ 6 ∷ 31 ∷ 9 ∷ 32 ∷ 8 ∷ 8 ∷ []) ∷ [], Ok (shop_size ∷ [])) ∷
+    ((0x32E, 37 ∷ []) ∷ (0x489, 4 ∷ 6 ∷ 32 ∷ 9 ∷ 8 ∷ []) ∷ [], Ok (size ∷ [])) ∷
+    ((0x32E, 37 ∷ []) ∷ (0x489, 5 ∷ 6 ∷ 31 ∷ 128 ∷ 129 ∷ 8 ∷ []) ∷ [], Ok (size ∷ [])) ∷
+    ((0x32E, 37 ∷ []) ∷ (0x489, 7 ∷ 6 ∷ 31 ∷ 192 ∷ 0 ∷ 64 ∷ 1 ∷ 8 ∷ []) ∷ [], Ok (size ∷ [])) ∷
+    ((0x32E, 37 ∷ []) ∷ (0x489, 6 ∷ 6 ∷ 31 ∷ 9 ∷ 32 ∷ 8 ∷ 8 ∷ []) ∷ [], Ok (size ∷ [])) ∷
     -- A modifier before U4.
     ((0x32E, 37 ∷ []) ∷ (0x489, 4 ∷ 6 ∷ 32 ∷ 8 ∷ 9 ∷ []) ∷ (0x348, 9 ∷ []) ∷ (0x34E, 9 ∷ []) ∷ (0x354, 9 ∷ []) ∷ (0x47F, 128 ∷ []) ∷ [], Ok (unsigned ∷ [])) ∷
     -- One row of Field less: the last case goes, and the rows behind it are read 6 bytes early. Then row 1 of Constant is that of `.ctor`,
@@ -96,14 +93,10 @@ states =
     -- What extends System.Attribute is passed over whatever its fields are: the signature of `value__` past the heap.
     ((0x304, 32 ∷ []) ∷ (0x32E, 48 ∷ []) ∷ [], Ok []) ∷
     -- `<Module>` with the flag 0x4000 is passed over too; without it its name isn't looked at, and in neither case what it extends.
-    ((0x30F, 64 ∷ []) ∷ [], Ok (shop_size ∷ [])) ∷
-    ((0x312, 255 ∷ []) ∷ [], Ok (shop_size ∷ [])) ∷
-    ((0x316, 7 ∷ []) ∷ [], Ok (shop_size ∷ [])) ∷
-    ((0x30F, 64 ∷ []) ∷ (0x316, 7 ∷ []) ∷ [], Ok (shop_size ∷ [])) ∷
-    -- Its fields begin at row 0, and so do its methods, and those of the enum: each list still runs forward.
-    ((0x318, 0 ∷ []) ∷ [], Ok (shop_size ∷ [])) ∷
-    ((0x31A, 0 ∷ []) ∷ [], Ok (shop_size ∷ [])) ∷
-    ((0x31A, 0 ∷ []) ∷ (0x328, 0 ∷ []) ∷ [], Ok (shop_size ∷ [])) ∷
+    ((0x30F, 64 ∷ []) ∷ [], Ok (size ∷ [])) ∷
+    ((0x312, 255 ∷ []) ∷ [], Ok (size ∷ [])) ∷
+    ((0x316, 7 ∷ []) ∷ [], Ok (size ∷ [])) ∷
+    ((0x30F, 64 ∷ []) ∷ (0x316, 7 ∷ []) ∷ [], Ok (size ∷ [])) ∷
     []
 
 -- Faults of the headers and of the streams.
@@ -193,6 +186,10 @@ stream =
 -- Faults of rows and of what they lead to.
 abbrev pub rows : List Edited
 rows =
+    -- The fields of `<Module>` begin at row 0, and so do its methods, and those of the enum: each list runs forward.
+    ((0x318, 0 ∷ []) ∷ [], fault kinds.RowRange 0x318) ∷
+    ((0x31A, 0 ∷ []) ∷ [], fault kinds.RowRange 0x31A) ∷
+    ((0x31A, 0 ∷ []) ∷ (0x328, 0 ∷ []) ∷ [], fault kinds.RowRange 0x328) ∷
     -- The name of the enum: past the heap; a text without end; no UTF-8; no text; no identifier. Its namespace.
     ((0x320, 176 ∷ []) ∷ [], fault kinds.HeapRange 0x320) ∷
     ((0x320, 175 ∷ []) ∷ (0x44F, 65 ∷ []) ∷ [], fault kinds.HeapText 0x320) ∷
@@ -203,8 +200,8 @@ rows =
     ((0x322, 0 ∷ []) ∷ [], fault kinds.BadShape 0x320) ∷
     -- The name of `<Module>` where it has the flag 0x4000; its namespace; `Shop.<Module>`, which isn't passed over and extends nothing.
     ((0x30F, 64 ∷ []) ∷ (0x312, 255 ∷ []) ∷ [], fault kinds.HeapRange 0x312) ∷
-    ((0x30F, 64 ∷ []) ∷ (0x314, 255 ∷ []) ∷ [], fault kinds.HeapRange 0x314) ∷
-    ((0x30F, 64 ∷ []) ∷ (0x314, 84 ∷ []) ∷ [], fault kinds.RowRange 0x316) ∷
+    ((0x30F, 64 ∷ []) ∷ (0x314, 255 ∷ []) ∷ [], Ok (size ∷ [])) ∷
+    ((0x30F, 64 ∷ []) ∷ (0x314, 84 ∷ []) ∷ [], Ok (size ∷ [])) ∷
     -- What the enum extends: row 3 of TypeRef, and of TypeDef; tag 3; a row whose name, and whose namespace, is past the heap.
     ((0x324, 13 ∷ []) ∷ [], fault kinds.RowRange 0x324) ∷
     ((0x324, 12 ∷ []) ∷ [], fault kinds.RowRange 0x324) ∷
@@ -224,34 +221,34 @@ rows =
     ((0x304, 79 ∷ []) ∷ [], fault kinds.BadShape 0x324) ∷
     ((0x304, 137 ∷ []) ∷ (0x429, 79 ∷ 98 ∷ 106 ∷ 101 ∷ 99 ∷ 116 ∷ 0 ∷ []) ∷ (0x306, 84 ∷ []) ∷ [], fault kinds.BadShape 0x324) ∷
     -- What it extends before its own name: no identifier.
-    ((0x3EF, 49 ∷ []) ∷ (0x324, 0 ∷ []) ∷ [], fault kinds.RowRange 0x324) ∷
+    ((0x3EF, 49 ∷ []) ∷ (0x324, 0 ∷ []) ∷ [], fault kinds.BadShape 0x320) ∷
     -- Its fields: from 0 on, where those of `<Module>` are so too; none.
     ((0x318, 0 ∷ []) ∷ (0x326, 0 ∷ []) ∷ [], fault kinds.RowRange 0x326) ∷
-    ((0x326, 5 ∷ []) ∷ [], fault kinds.BadShape 0x31C) ∷
+    ((0x326, 5 ∷ []) ∷ [], fault kinds.BadShape 0x326) ∷
     -- Its fields are cases alone.
-    ((0x326, 2 ∷ []) ∷ [], fault kinds.BadShape 0x31C) ∷
+    ((0x326, 2 ∷ []) ∷ [], fault kinds.BadShape 0x326) ∷
     -- Its name before its fields.
-    ((0x318, 0 ∷ []) ∷ (0x326, 0 ∷ []) ∷ (0x3EF, 49 ∷ []) ∷ [], fault kinds.BadShape 0x320) ∷
+    ((0x318, 0 ∷ []) ∷ (0x326, 0 ∷ []) ∷ (0x3EF, 49 ∷ []) ∷ [], fault kinds.RowRange 0x326) ∷
     -- `value__`: of another type; with the flag of a case; beside a second field that is no case; its signature past the heap.
-    ((0x32E, 4 ∷ []) ∷ [], fault kinds.BadShape 0x31C) ∷
-    ((0x467, 8 ∷ []) ∷ (0x466, 7 ∷ []) ∷ [], fault kinds.BadShape 0x31C) ∷
-    ((0x32A, 65 ∷ []) ∷ [], fault kinds.BadShape 0x31C) ∷
-    ((0x330, 22 ∷ []) ∷ [], fault kinds.BadShape 0x31C) ∷
+    ((0x32E, 4 ∷ []) ∷ [], fault kinds.BadShape 0x32E) ∷
+    ((0x467, 8 ∷ []) ∷ (0x466, 7 ∷ []) ∷ [], fault kinds.SigElement 0x32E) ∷
+    ((0x32A, 65 ∷ []) ∷ [], fault kinds.BadShape 0x326) ∷
+    ((0x330, 22 ∷ []) ∷ [], fault kinds.BadShape 0x326) ∷
     ((0x32E, 48 ∷ []) ∷ [], fault kinds.HeapRange 0x32E) ∷
     -- Its signature, over a token at the index 0x25: a modifier whose token begins with bits 111.
-    ((0x32E, 37 ∷ []) ∷ (0x489, 7 ∷ 6 ∷ 31 ∷ 224 ∷ 0 ∷ 0 ∷ 0 ∷ 8 ∷ []) ∷ [], fault kinds.BadShape 0x31C) ∷
+    ((0x32E, 37 ∷ []) ∷ (0x489, 7 ∷ 6 ∷ 31 ∷ 224 ∷ 0 ∷ 0 ∷ 0 ∷ 8 ∷ []) ∷ [], fault kinds.BadLead 0x32E) ∷
     -- No byte; no type; of I2; a byte behind; a modifier with nothing behind its token
     -- of one byte, of two, or behind one that is cut; one behind the type; BYREF; 0x21, which is no modifier.
-    ((0x32E, 37 ∷ []) ∷ (0x489, 0 ∷ []) ∷ [], fault kinds.BadShape 0x31C) ∷
-    ((0x32E, 37 ∷ []) ∷ (0x489, 1 ∷ 6 ∷ []) ∷ [], fault kinds.BadShape 0x31C) ∷
-    ((0x32E, 37 ∷ []) ∷ (0x489, 2 ∷ 6 ∷ 6 ∷ []) ∷ [], fault kinds.BadShape 0x31C) ∷
-    ((0x32E, 37 ∷ []) ∷ (0x489, 3 ∷ 6 ∷ 8 ∷ 0 ∷ []) ∷ [], fault kinds.BadShape 0x31C) ∷
-    ((0x32E, 37 ∷ []) ∷ (0x489, 3 ∷ 6 ∷ 32 ∷ 8 ∷ []) ∷ [], fault kinds.BadShape 0x31C) ∷
-    ((0x32E, 37 ∷ []) ∷ (0x489, 4 ∷ 6 ∷ 31 ∷ 128 ∷ 8 ∷ []) ∷ [], fault kinds.BadShape 0x31C) ∷
-    ((0x32E, 37 ∷ []) ∷ (0x489, 5 ∷ 6 ∷ 31 ∷ 192 ∷ 0 ∷ 8 ∷ []) ∷ [], fault kinds.BadShape 0x31C) ∷
-    ((0x32E, 37 ∷ []) ∷ (0x489, 4 ∷ 6 ∷ 8 ∷ 32 ∷ 9 ∷ []) ∷ [], fault kinds.BadShape 0x31C) ∷
-    ((0x32E, 37 ∷ []) ∷ (0x489, 3 ∷ 6 ∷ 16 ∷ 8 ∷ []) ∷ [], fault kinds.BadShape 0x31C) ∷
-    ((0x32E, 37 ∷ []) ∷ (0x489, 4 ∷ 6 ∷ 33 ∷ 9 ∷ 8 ∷ []) ∷ [], fault kinds.BadShape 0x31C) ∷
+    ((0x32E, 37 ∷ []) ∷ (0x489, 0 ∷ []) ∷ [], fault kinds.SigShort 0x32E) ∷
+    ((0x32E, 37 ∷ []) ∷ (0x489, 1 ∷ 6 ∷ []) ∷ [], fault kinds.SigShort 0x32E) ∷
+    ((0x32E, 37 ∷ []) ∷ (0x489, 2 ∷ 6 ∷ 6 ∷ []) ∷ [], fault kinds.BadShape 0x32E) ∷
+    ((0x32E, 37 ∷ []) ∷ (0x489, 3 ∷ 6 ∷ 8 ∷ 0 ∷ []) ∷ [], fault kinds.SigTail 0x32E) ∷
+    ((0x32E, 37 ∷ []) ∷ (0x489, 3 ∷ 6 ∷ 32 ∷ 8 ∷ []) ∷ [], fault kinds.SigShort 0x32E) ∷
+    ((0x32E, 37 ∷ []) ∷ (0x489, 4 ∷ 6 ∷ 31 ∷ 128 ∷ 8 ∷ []) ∷ [], fault kinds.SigShort 0x32E) ∷
+    ((0x32E, 37 ∷ []) ∷ (0x489, 5 ∷ 6 ∷ 31 ∷ 192 ∷ 0 ∷ 8 ∷ []) ∷ [], fault kinds.Short 0x32E) ∷
+    ((0x32E, 37 ∷ []) ∷ (0x489, 4 ∷ 6 ∷ 8 ∷ 32 ∷ 9 ∷ []) ∷ [], fault kinds.SigTail 0x32E) ∷
+    ((0x32E, 37 ∷ []) ∷ (0x489, 3 ∷ 6 ∷ 16 ∷ 8 ∷ []) ∷ [], fault kinds.SigElement 0x32E) ∷
+    ((0x32E, 37 ∷ []) ∷ (0x489, 4 ∷ 6 ∷ 33 ∷ 9 ∷ 8 ∷ []) ∷ [], fault kinds.SigElement 0x32E) ∷
     -- A case's name past the heap, and one that is no identifier, also where it has no constant.
     ((0x332, 176 ∷ []) ∷ [], fault kinds.HeapRange 0x332) ∷
     ((0x401, 45 ∷ []) ∷ [], fault kinds.BadShape 0x332) ∷
@@ -263,13 +260,13 @@ rows =
     ((0x350, 8 ∷ []) ∷ [], fault kinds.BadShape 0x330) ∷
     ((0x2E8, 2 ∷ []) ∷ [], fault kinds.BadShape 0x33C) ∷
     -- The type of Small's constant is U4, that of Large is I2; `value__` is of U4, and the constants of I4; Small alone is of U4 there.
-    ((0x348, 9 ∷ []) ∷ [], fault kinds.BadShape 0x330) ∷
-    ((0x354, 6 ∷ []) ∷ [], fault kinds.BadShape 0x33C) ∷
-    ((0x467, 9 ∷ []) ∷ [], fault kinds.BadShape 0x330) ∷
-    ((0x467, 9 ∷ []) ∷ (0x348, 9 ∷ []) ∷ [], fault kinds.BadShape 0x336) ∷
+    ((0x348, 9 ∷ []) ∷ [], fault kinds.BadShape 0x34C) ∷
+    ((0x354, 6 ∷ []) ∷ [], fault kinds.BadShape 0x358) ∷
+    ((0x467, 9 ∷ []) ∷ [], fault kinds.BadShape 0x34C) ∷
+    ((0x467, 9 ∷ []) ∷ (0x348, 9 ∷ []) ∷ [], fault kinds.BadShape 0x352) ∷
     -- Small's value: of two bytes, and of five; past the heap; longer than the heap; behind a lead of bits 111; behind a length that is cut.
-    ((0x34C, 1 ∷ []) ∷ [], fault kinds.BadShape 0x330) ∷
-    ((0x471, 5 ∷ []) ∷ [], fault kinds.BadShape 0x330) ∷
+    ((0x34C, 1 ∷ []) ∷ [], fault kinds.BadShape 0x34C) ∷
+    ((0x471, 5 ∷ []) ∷ [], fault kinds.BadShape 0x34C) ∷
     ((0x34C, 48 ∷ []) ∷ [], fault kinds.HeapRange 0x34C) ∷
     ((0x471, 35 ∷ []) ∷ [], fault kinds.BadLength 0x34C) ∷
     ((0x471, 224 ∷ []) ∷ [], fault kinds.BadLead 0x34C) ∷
@@ -284,10 +281,10 @@ rows =
     ((0x35C, 2 ∷ []) ∷ [], fault kinds.RowRange 0x35C) ∷
     -- Its value past the heap, of 3 bytes and of 5; a prolog of `02 00`, and of `01 01`.
     ((0x35E, 48 ∷ []) ∷ [], fault kinds.HeapRange 0x35E) ∷
-    ((0x35E, 4 ∷ []) ∷ [], fault kinds.BadShape 0x31C) ∷
-    ((0x480, 5 ∷ []) ∷ [], fault kinds.BadShape 0x31C) ∷
-    ((0x481, 2 ∷ []) ∷ [], fault kinds.BadShape 0x31C) ∷
-    ((0x482, 1 ∷ []) ∷ [], fault kinds.BadShape 0x31C) ∷
+    ((0x35E, 4 ∷ []) ∷ [], fault kinds.BadShape 0x35E) ∷
+    ((0x480, 5 ∷ []) ∷ [], fault kinds.BadShape 0x35E) ∷
+    ((0x481, 2 ∷ []) ∷ [], fault kinds.BadShape 0x35E) ∷
+    ((0x482, 1 ∷ []) ∷ [], fault kinds.BadShape 0x35E) ∷
     -- The class of the constructor: past TypeRef, past TypeDef, and past ModuleRef, which has no rows; row 0 of each, and of MethodDef; of tag 5; its
     -- name past the heap.
     ((0x342, 25 ∷ []) ∷ [], fault kinds.RowRange 0x342) ∷
@@ -300,17 +297,19 @@ rows =
     ((0x342, 21 ∷ []) ∷ [], fault kinds.BadTag 0x342) ∷
     ((0x30A, 176 ∷ []) ∷ [], fault kinds.HeapRange 0x30A) ∷
     -- The cases before the attribute: a constant of another type, and a constructor past the table.
-    ((0x348, 9 ∷ []) ∷ (0x35C, 19 ∷ []) ∷ [], fault kinds.BadShape 0x330) ∷
+    ((0x348, 9 ∷ []) ∷ (0x35C, 19 ∷ []) ∷ [], fault kinds.RowRange 0x35C) ∷
     []
 
 -- Types of other kinds.
 abbrev pub others : List Edited
 others =
-    ((0x31C, 33 ∷ []) ∷ [], Err (NotYet 0x31C)) ∷
-    ((0x31C, 33 ∷ []) ∷ (0x324, 0 ∷ []) ∷ [], Err (NotYet 0x31C)) ∷
-    ((0x31C, 33 ∷ []) ∷ (0x324, 9 ∷ []) ∷ [], Err (NotYet 0x31C)) ∷
-    ((0x304, 137 ∷ []) ∷ (0x429, 86 ∷ 97 ∷ 108 ∷ 117 ∷ 101 ∷ 84 ∷ 121 ∷ 112 ∷ 101 ∷ 0 ∷ []) ∷ [], Err (NotYet 0x31C)) ∷
-    ((0x304, 137 ∷ []) ∷ (0x429, 77 ∷ 117 ∷ 108 ∷ 116 ∷ 105 ∷ 99 ∷ 97 ∷ 115 ∷ 116 ∷ 68 ∷ 101 ∷ 108 ∷ 101 ∷ 103 ∷ 97 ∷ 116 ∷ 101 ∷ 0 ∷ []) ∷ [], Err (NotYet 0x31C)) ∷
-    ((0x304, 137 ∷ []) ∷ (0x429, 79 ∷ 98 ∷ 106 ∷ 101 ∷ 99 ∷ 116 ∷ 0 ∷ []) ∷ [], Err (NotYet 0x31C)) ∷
-    ((0x31C, 33 ∷ []) ∷ (0x3EF, 49 ∷ []) ∷ [], Err (NotYet 0x31C)) ∷
+    -- An interface without an id, which extends an enum, nothing, and an attribute's type; a struct of the enum's fields; a delegate without an id; a
+    -- class; an interface of no path.
+    ((0x31C, 33 ∷ []) ∷ [], fault kinds.MissingAttribute 0x31C) ∷
+    ((0x31C, 33 ∷ []) ∷ (0x324, 0 ∷ []) ∷ [], fault kinds.MissingAttribute 0x31C) ∷
+    ((0x31C, 33 ∷ []) ∷ (0x324, 9 ∷ []) ∷ [], fault kinds.MissingAttribute 0x31C) ∷
+    ((0x304, 137 ∷ []) ∷ (0x429, 86 ∷ 97 ∷ 108 ∷ 117 ∷ 101 ∷ 84 ∷ 121 ∷ 112 ∷ 101 ∷ 0 ∷ []) ∷ [], Ok (of_fields ∷ [])) ∷
+    ((0x304, 137 ∷ []) ∷ (0x429, 77 ∷ 117 ∷ 108 ∷ 116 ∷ 105 ∷ 99 ∷ 97 ∷ 115 ∷ 116 ∷ 68 ∷ 101 ∷ 108 ∷ 101 ∷ 103 ∷ 97 ∷ 116 ∷ 101 ∷ 0 ∷ []) ∷ [], fault kinds.MissingAttribute 0x31C) ∷
+    ((0x304, 137 ∷ []) ∷ (0x429, 79 ∷ 98 ∷ 106 ∷ 101 ∷ 99 ∷ 116 ∷ 0 ∷ []) ∷ [], Ok (without_members ∷ [])) ∷
+    ((0x31C, 33 ∷ []) ∷ (0x3EF, 49 ∷ []) ∷ [], fault kinds.BadShape 0x320) ∷
     []
