@@ -60,7 +60,8 @@ fn push_types(out: &mut String, types: &Types) -> Result<(), AllocError> {
     Ok(())
 }
 
-fn push_read(out: &mut String, image: &[u8]) -> Result<(), AllocError> {
+/// The declarations that an image states.
+pub fn push_read(out: &mut String, image: &[u8]) -> Result<(), AllocError> {
     match types_of(*out.allocator(), image) {
         Ok(types) => push_types(out, &types),
         Err(_) => out.push_str("not read"),

@@ -1,8 +1,10 @@
 //! Prints what source sets and the tool answer to each line of the standard input. `docs/CONTRIBUTING.md` says how a case is spelled.
 #![tactic(auto)]
 
+mod calls;
 mod files;
 mod images;
+mod parts;
 mod sets;
 mod tool;
 
@@ -16,6 +18,7 @@ fn answer_of(out: &mut String, command: &str, case: &str) -> Result<(), AllocErr
         "image" => images::image(out, case),
         "bytes" => images::bytes(out, case),
         "reread" => images::reread(out, case),
+        "calls" => calls::calls(out, case),
         _ => out.push_str("no such command"),
     }
 }

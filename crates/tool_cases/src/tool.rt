@@ -7,19 +7,24 @@ use std::alloc::{AllocError, Global};
 use wr_outside::{MemorySink, MemoryStore};
 use wr_tools::winrt_tool;
 
-/// What a call reads and writes, and its status.
+/// What calls read and write, and the status of the last one.
 #[derive(Drop)]
 pub struct Run {
     pub status: u8,
-    store: MemoryStore,
+    pub store: MemoryStore,
     pub out: MemorySink,
     err: MemorySink,
 }
 
 impl Run {
+    /// A file as the calls left it.
+    pub fn file(&self, name: &str) -> Option<&[u8]> {
+        self.store.files.get(name)
+    }
+
     /// The image that the call left.
     pub fn image(&self) -> Option<&[u8]> {
-        self.store.files.get("a.winmd")
+        self.file("a.winmd")
     }
 
     /// What stands on err.
@@ -28,11 +33,13 @@ impl Run {
     }
 }
 
-fn call(alloc: Global, run: &mut Run, words: &[String]) {
+/// Calls the tool with these words.
+pub fn call(alloc: Global, run: &mut Run, words: &[String]) {
     run.status = winrt_tool(alloc, words, &mut run.store, &mut run.out, &mut run.err);
 }
 
-fn outside(alloc: Global, failing: &str, mute: &str, files: &str) -> Result<Run, AllocError> {
+/// The files that a case spells, before the first call.
+pub fn outside(alloc: Global, failing: &str, mute: &str, files: &str) -> Result<Run, AllocError> {
     let store = store_of(alloc, failing, files)?;
     let mute = numbers_of(alloc, mute)?;
     Ok(Run {
