@@ -1,6 +1,7 @@
 pub mod OrderLaws
 pub mod TextLaws
 pub mod RefLaws
+pub mod MergeLaws
 pub mod NumberLaws
 pub mod DeclaredLaws
 pub mod DownLaws

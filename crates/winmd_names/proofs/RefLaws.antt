@@ -17,11 +17,11 @@ use Rattle.winmd_names.specs.Orders.{Rises}
 
 -- ---- a name that comes before others isn't among them
 
-not_among : (x : List ℕ) (ys : List (List ℕ)) → AllByRecursion (λ y. slice_cmp nat_cmp x y ≡ Less) ys → list_any (bytes_eq x) ys ≡ false
+pub not_among : (x : List ℕ) (ys : List (List ℕ)) → AllByRecursion (λ y. slice_cmp nat_cmp x y ≡ Less) ys → list_any (bytes_eq x) ys ≡ false
 not_among x [] h = refl
 not_among x (y ∷ ys) h = (let no : bytes_eq x y ≡ false = sym (is_eq-slice_cmp x y) ∙ ap is_eq h.0 in rw (no, not_among x ys h.1) refl)
 
-before_rest : (x z : List ℕ) (zs : List (List ℕ)) → slice_cmp nat_cmp x z ≡ Less → AllByRecursion (λ y. slice_cmp nat_cmp z y ≡ Less) zs → AllByRecursion (λ y. slice_cmp nat_cmp x y ≡ Less) zs
+pub before_rest : (x z : List ℕ) (zs : List (List ℕ)) → slice_cmp nat_cmp x z ≡ Less → AllByRecursion (λ y. slice_cmp nat_cmp z y ≡ Less) zs → AllByRecursion (λ y. slice_cmp nat_cmp x y ≡ Less) zs
 before_rest x z [] e h = tt
 before_rest x z (y ∷ ys) e h = (nat_list_cmp_total.trans x z y e h.0, before_rest x z ys e h.1)
 

@@ -3,4 +3,5 @@ pub mod InstanceRows
 pub mod Texted
 pub mod Exact
 pub mod Orders
+pub mod References
 pub mod Seen

@@ -2,7 +2,7 @@
 
 ghost use Rattle.std.specs.Prelude.{◌≡◌, ◌≤◌, IfOk, OnOk, length, map, not, string_bytes};
 ghost use Rattle.std.specs.List.{filter};
-ghost use Rattle.wr_base.specs.Declarations.{name_of};
+ghost use Rattle.wr_base.specs.Declarations.{IsInOrder, name_of};
 ghost use Rattle.wr_base.specs.Trees.{decl_tree, tree_of};
 ghost use Rattle.winmd_sets.specs.Rows as rows;
 ghost use Rattle.winmd_lines.specs.Names.{is_declared};
@@ -13,7 +13,6 @@ ghost use Rattle.winmd_uses.specs.Uses.{IsUsed};
 ghost use Rattle.winmd_names.specs.Orders.{Rises};
 ghost use Rattle.winmd_names.specs.Seen.{seen};
 
-use crate::declared::declared_names;
 use crate::instance_rows::{in_order, rows_of};
 use crate::makers::used_makers;
 use crate::numbers::{MOST_ROWS, numbers};
@@ -25,7 +24,8 @@ use winmd_uses::{Maker, Used, uses_of};
 use wr_base::{FullName, TypeUse, Types};
 
 fn type_names(alloc: Global, types: &Types) -> Result<Vec<FullName>, Memory>
-    ensures { IfOk result (λ names. names.items ≡ map name_of types.now) }
+    ensures names { IfOk result (λ names. names.items ≡ map name_of types.now) }
+    ensures order { IsInOrder types.now }
 {
     let mut names = Vec::new(alloc);
     for i in 0..types.len() {
@@ -39,12 +39,9 @@ fn named(alloc: Global, types: &Types, used: &Used) -> Result<TypeNames, Memory>
     ensures refs { IfOk result (λ names. map string_bytes names.refs.items ≡ filter (λ full. not (is_declared (map name_of types.now) full)) (all_names used.now)) }
     ensures ordered { OnOk result (Rises (all_names used.now)) }
 {
-    let declared = declared_names(alloc, types)?;
-    let refs = references(alloc, &declared, used.names())?;
-    Ok(TypeNames {
-        types: type_names(alloc, types)?,
-        refs,
-    })
+    let types = type_names(alloc, types)?;
+    let refs = references(alloc, types.as_slice(), used.names())?;
+    Ok(TypeNames { types, refs })
 }
 
 fn instance_rows(alloc: Global, uses: &[TypeUse]) -> Result<InstanceRows, Memory>
