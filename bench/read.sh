@@ -5,7 +5,7 @@
 #
 #   bench/read.sh [N [M]]      N interfaces and N enums, which are 20000 where none is given, and M classes, which are 4000
 #
-# Each figure is the least of five runs in one process (of three of monodis, whole runs). Four times as many of a kind are to take less than 4.4
+# Each figure is the least of five runs in one process, and one whole run of monodis. Four times as many of a kind are to take less than 4.4
 # times as long, and each hostile image less than 2 s. The memory is that of the whole process, with the image.
 # Needs bash, python3, GNU time (/usr/bin/time) and awk, and the program, which `./winrt --prove` builds; else the one that `./winrt` builds
 # without its proofs.
@@ -101,12 +101,10 @@ last() {
     cat "$work/memory"
 }
 
-# disassembled FILE: the least milliseconds of three runs of monodis
+# disassembled FILE: the seconds of a run of monodis
 disassembled() {
-    for _ in 1 2 3; do
-        /usr/bin/time -f %e -o "$work/seconds" monodis "$1" > /dev/null 2>&1 || :
-        tail -n 1 "$work/seconds"
-    done | sort -g | awk 'NR == 1 { printf "%.0f", $1 * 1000 }'
+    /usr/bin/time -f %e -o "$work/seconds" monodis "$1" > /dev/null 2>&1 || :
+    tail -n 1 "$work/seconds"
 }
 
 # compared WORD KIND N: so many, and a quarter
@@ -119,7 +117,7 @@ compared() {
         split(all, a, " "); split(quarter, q, " ")
         printf "%d %s: %s types of %.1f MiB in %.0f ms, %.0f MiB of memory; a quarter: %.0f ms, ratio %.2f\n", n, word, a[2], size / 1048576, a[1] / 1000, a[4] / 1024, q[1] / 1000, a[1] / q[1]
     }'
-    ! command -v monodis > /dev/null || echo "    monodis: $(disassembled "$all_image") ms"
+    ! command -v monodis > /dev/null || echo "    monodis: $(disassembled "$all_image") s"
 }
 
 built read_bench "$(image enums 4)"
@@ -127,7 +125,7 @@ compared 'interfaces of 5 methods' interfaces "$count"
 compared 'enums of 3 cases' enums "$count"
 compared classes classes "$classes"
 
-# Images of 64 MiB: an image whose `#~` is written anew, behind all else.
+# Images of 64 MiB: an image of one enum whose stream of tables is written anew, behind all else.
 (cd "$work" && python3 - "$(image enums 1)" <<'PYTHON'
 import sys
 
@@ -137,6 +135,10 @@ first = open(sys.argv[1], "rb").read()
 
 def number(at):
     return int.from_bytes(first[at : at + 4], "little")
+
+
+def two(number):
+    return number.to_bytes(2, "little")
 
 
 def hostile(name, stream):
@@ -155,18 +157,52 @@ def tables(*counts):
     return bytes((0, 0, 0, 0, 2, 0, 0, 1)) + valid.to_bytes(8, "little") + bytes(8) + b"".join(count.to_bytes(4, "little") for n, count in counts)
 
 
-room = SIZE - len(first) - 64
+texts = first[0x248 + number(0x27C) :][: number(0x280)]
+blobs = first[0x248 + number(0x2AC) :][: number(0x2B0)]
+
+
+def text(name):
+    return two(texts.index(b"\0" + name + b"\0") + 1)
+
+
+def blob(content):
+    return two(blobs.index(bytes([len(content)]) + content))
+
+
+room = SIZE - len(first) - 256
+value = text(b"value__") + blob(b"\6\x08")
+enum_ref = b"\0\0" + text(b"Enum") + text(b"System")
 hostile("zeros", bytes(1))
 hostile("ones", b"\xff")
 hostile("rows-of-zeros", tables((0x1A, 1 << 24)) + bytes(1))  # 2^24 rows of ModuleRef
 hostile("interfaces-of-nothing", tables((0x09, room // 4)) + bytes(1))  # InterfaceImpl
-hostile("lists-of-nothing", tables((0x02, room // 14)) + (bytes(10) + b"\1\0\1\0") * (room // 14) + bytes(1))  # TypeDef, none of which states anything
-hostile("attributes-of-one-type", tables((0x02, 1), (0x0C, room // 8)) + b"\1\x41" + bytes(8) + b"\1\0\1\0" + b"\x23\0\0\0\0\0\0\0" * (room // 8) + bytes(1))
-# one type with all fields, each of which is a case
-hostile("fields-of-one-type", tables((0x02, 1), (0x04, room // 6)) + b"\1\x41" + bytes(8) + b"\1\0\1\0" + b"\x40\0\1\0\0\0" * (room // 6) + bytes(1))
+hostile("types-that-state-nothing", tables((0x02, room // 16)) + (bytes(12) + b"\1\0\1\0") * (room // 16) + bytes(1))
+# an enum whose attributes are all made by one constructor
+count = room // 6
+hostile(
+    "attributes-of-one-type",
+    tables((0x01, 1), (0x02, 1), (0x04, 1), (0x0A, 1), (0x0C, count))
+    + enum_ref
+    + b"\1\x41\0\0" + text(b"E0") + text(b"Gen") + b"\5\0\1\0\1\0"
+    + b"\1\6" + value
+    + b"\x09\0\0\0\0\0"
+    + b"\x23\0\x0B\0\0\0" * count + bytes(1),
+)
+# an enum with all fields, each a case with a constant
+count = room // 14
+hostile(
+    "cases-of-one-type",
+    tables((0x01, 1), (0x02, 1), (0x04, count), (0x0B, count - 1))
+    + enum_ref
+    + b"\1\x41\0\0" + text(b"E0") + text(b"Gen") + b"\5\0\1\0\0\0\1\0"
+    + b"\1\6" + value
+    + (b"\x56\x80" + text(b"A0") + b"\0\0") * (count - 1)
+    + b"".join(b"\x08\0" + (n * 4).to_bytes(4, "little") + blob(bytes(4)) for n in range(2, count + 1))
+    + bytes(1),
+)
 PYTHON
 )
-for name in zeros ones rows-of-zeros interfaces-of-nothing lists-of-nothing attributes-of-one-type fields-of-one-type; do
+for name in zeros ones rows-of-zeros interfaces-of-nothing types-that-state-nothing attributes-of-one-type cases-of-one-type; do
     awk -v name="$name" -v found="$(last "$work/$name")" 'BEGIN {
         n = split(found, a, " ")
         text = a[2]
