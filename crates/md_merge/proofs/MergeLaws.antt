@@ -74,22 +74,32 @@ merged_whole : (sets : List (List Declaration)) (types : List Declaration) (entr
 merged_whole sets types entry m b =
     not_broken types entry m.accepted (subst (λ (ts : List Declaration). IsFirst (rules.Broken ts (plain_from 0 ts)) (Some entry)) (one_union sets b.types types b.union m.union) b.first)
 
+-- ---- one outcome
+
+pub one_set : (sets : List (List Declaration)) (one other : List Declaration) → IsMerged sets one → IsMerged sets other → one ≡ other
+one_set sets one other a b = one_union sets one other a.union b.union
+
+pub not_refused : (sets : List (List Declaration)) (types : List Declaration) (refusal : MergeRefusal) → IsMerged sets types → IsRefusalOf sets refusal → ⊥
+not_refused sets types (Conflict name) m r = no_conflict sets types name m.union r.stands
+not_refused sets types (Broken entry) m r = merged_whole sets types entry m r
+
+pub one_refusal : (sets : List (List Declaration)) (one other : MergeRefusal) → IsRefusalOf sets one → IsRefusalOf sets other → one ≡ other
+one_refusal sets (Conflict a) (Conflict b) h g = ap Conflict (one_least sets a b h g)
+one_refusal sets (Conflict a) (Broken b) h g = absurd (no_conflict sets g.types a g.union h.stands)
+one_refusal sets (Broken a) (Conflict b) h g = absurd (no_conflict sets h.types b h.union g.stands)
+one_refusal sets (Broken a) (Broken b) h g = ap Broken (one_broken sets a b h g)
+
 -- ---- the answer from what it says
 
 pub gives : (sets : List (List Declaration)) (types : List Declaration) (r : Result (List Declaration) (Stop MergeRefusal)) → IfOk r (IsMerged sets) → IfErr r (OnRefused (IsRefusalOf sets)) → IsMerged sets types → Gives types r
-gives sets types (Ok x) ok err m = one_union sets x types ok.union m.union
+gives sets types (Ok x) ok err m = one_set sets x types ok m
 gives sets types (Err Memory) ok err m = tt
-gives sets types (Err (Refused (Conflict name))) ok err m = no_conflict sets types name m.union err.stands
-gives sets types (Err (Refused (Broken entry))) ok err m = merged_whole sets types entry m err
+gives sets types (Err (Refused refusal)) ok err m = not_refused sets types refusal m err
 
 pub refuses : (sets : List (List Declaration)) (refusal : MergeRefusal) (r : Result (List Declaration) (Stop MergeRefusal)) → IfOk r (IsMerged sets) → IfErr r (OnRefused (IsRefusalOf sets)) → IsRefusalOf sets refusal → Refuses refusal r
-refuses sets (Conflict name) (Ok x) ok err m = no_conflict sets x name ok.union m.stands
-refuses sets (Broken entry) (Ok x) ok err m = merged_whole sets x entry ok m
+refuses sets refusal (Ok x) ok err m = not_refused sets x refusal ok m
 refuses sets refusal (Err Memory) ok err m = tt
-refuses sets (Conflict name) (Err (Refused (Conflict other))) ok err m = ap Conflict (one_least sets other name err m)
-refuses sets (Conflict name) (Err (Refused (Broken entry))) ok err m = absurd (no_conflict sets err.types name err.union m.stands)
-refuses sets (Broken entry) (Err (Refused (Conflict other))) ok err m = absurd (no_conflict sets m.types other m.union err.stands)
-refuses sets (Broken entry) (Err (Refused (Broken other))) ok err m = ap Broken (one_broken sets other entry err m)
+refuses sets refusal (Err (Refused other)) ok err m = one_refusal sets other refusal err m
 
 -- ---- proper sets
 

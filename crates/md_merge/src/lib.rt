@@ -10,6 +10,6 @@ mod merging;
 mod refusal;
 mod united;
 
-pub use laws::{few_together, one_union};
+pub use laws::{few_together, one_outcome, one_union};
 pub use merging::merge;
 pub use refusal::MergeRefusal;
