@@ -2,7 +2,7 @@
 use Rattle.std.proofs.Common.{◌≡◌, ◌⊎◌, ℕ, ◌≤◌, true, false, List, [], take, Option, None, Some, refl, sym, ap, subst, ◌∙◌, inl, inr, append-nil, arith}
 use Rattle.wr_outside.specs.Files.{Files, with_file, with_put, WritesSome}
 use Rattle.wr_tools.specs.Says.{Says}
-use Rattle.wr_tools.specs.Outside.{Outside, CountsRise, MayHold}
+use Rattle.wr_tools.specs.Outside.{Outside, CountsRise}
 use Rattle.wr_tools.specs.Reply.{Reply, refusal, done}
 use Rattle.wr_tools.specs.Command.{Command, Owes}
 use Rattle.wr_tools.specs.Lines.{IsLine, HasPart, ReadFaultLine, WriteFaultLine}
@@ -14,15 +14,11 @@ with_put-nil (Some before) = ap Some (sym (append-nil before))
 
 -- what the command accepts it replies 0 to
 abbrev pub IsSettled : Command → Type 0
-IsSettled command = (files : Files) (reply : Reply) → command.accepts files → command.replies files reply → reply.status ≡ 0
-
--- a store that tells its files may hold no others
-as_told : (held : Option Files) (told files : Files) → held ≡ Some told → MayHold held files → told ≡ files
-as_told held told files e may = subst (λ h. MayHold h files) e may
+IsSettled command = (files : Files) (reply : Reply) → command.accepts files → Owes command (Some files) reply → reply.status ≡ 0
 
 owed_done : (command : Command) (held : Option Files) (told : Files) (reply : Reply) → IsSettled command → held ≡ Some told → command.accepts told → Owes command held reply
     → reply.status ≡ 0
-owed_done command held told reply settled e ok owed = settled owed.files reply (subst command.accepts (as_told held told owed.files e owed.may_hold) ok) owed.replies
+owed_done command held told reply settled e ok owed = settled told reply ok (subst (λ h. Owes command h reply) e owed)
 
 module _ (command : Command) (before after : Outside) where
   -- err failed

@@ -16,7 +16,9 @@ use Rattle.wr_tools.specs.Command.{Owes}
 use Rattle.wr_tools.specs.Lines.{read_fault}
 use Rattle.wr_tools.specs.Made.{Made}
 use Rattle.wr_tools.proofs.SourceLaws.{writable}
-use Rattle.wr_tools.specs.Midl.{EventLine, status_of, midl_command}
+use Rattle.wr_tools.specs.Midl.{EventLine, status_of}
+use Rattle.wr_tools.specs.Words.{command_for}
+use Rattle.winrt_words.specs.Words.{midl}
 use Rattle.wr_tools.specs.Outcomes.{RefusalOwed, ReadFaultOwed}
 use Rattle.wr_tools.specs.Reply.{done}
 use Rattle.wr_tools.specs.Sets.{sources_from, sources_of, FirstFault}
@@ -41,37 +43,37 @@ matched missing = λ e. absurd (omega (arith, e))
 matched too_long = λ e. absurd (omega (arith, e))
 matched (refused x) = λ e. absurd (omega (arith, e))
 
-pub event_owed : (words : List (List ℕ)) (held : Option Files) (name line : List ℕ) (event : Event) → Stopped words held name event
-    → ((files : Files) → EventLine files name event line) → RefusalOwed words held (status_of event) line
-event_owed words held name line event s said = record {
+pub event_owed : (out : List ℕ) (words : List (List ℕ)) (held : Option Files) (name line : List ℕ) (event : Event) → Stopped words held name event
+    → ((files : Files) → EventLine files name event line) → RefusalOwed (midl (out, words)) held (status_of event) line
+event_owed out words held name line event s said = record {
   low = low event;
   high = high event;
   matched = matched event;
-  owed = λ out. record {
+  owed = record {
     files = s.files;
     may_hold = s.may_hold;
-    replies = inl (record { name = name; event = event; first = s.first; line = line; said = said s.files; is = refl });
+    holds = inl (record { name = name; event = event; first = s.first; line = line; said = said s.files; is = refl });
   };
 }
 
-pub faulted_owed : (words : List (List ℕ)) (held : Option Files) (name bytes line : List ℕ) (e : Entry) → Faulted words held name bytes (refused e)
-    → IsRefusalLine name bytes e line → RefusalOwed words held 1 line
-faulted_owed words held name bytes line e f said = record {
+pub faulted_owed : (out : List ℕ) (words : List (List ℕ)) (held : Option Files) (name bytes line : List ℕ) (e : Entry) → Faulted words held name bytes (refused e)
+    → IsRefusalLine name bytes e line → RefusalOwed (midl (out, words)) held 1 line
+faulted_owed out words held name bytes line e f said = record {
   low = omega arith;
   high = omega arith;
   matched = λ e. absurd (omega (arith, e));
-  owed = λ out. record {
+  owed = record {
     files = f.files;
     may_hold = f.may_hold;
-    replies = inl (record { name = name; event = refused e; first = f.first; line = line; said = (bytes, f.bytes_are, said); is = refl });
+    holds = inl (record { name = name; event = refused e; first = f.first; line = line; said = (bytes, f.bytes_are, said); is = refl });
   };
 }
 
-pub read_owed : (words : List (List ℕ)) (held : Option Files) (name line : List ℕ) → Reached words held name → line ≡ name ++ read_fault
-    → ReadFaultOwed words held line
-read_owed words held name line r e = record {
+pub read_owed : (out : List ℕ) (words : List (List ℕ)) (held : Option Files) (name line : List ℕ) → Reached words held name → line ≡ name ++ read_fault
+    → ReadFaultOwed (midl (out, words)) held line
+read_owed out words held name line r e = record {
   name = name;
-  awaited = λ out. record { files = r.files; may_hold = r.may_hold; awaits = r.awaits };
+  awaited = record { files = r.files; may_hold = r.may_hold; holds = r.awaits };
   is = e;
 }
 
@@ -101,7 +103,7 @@ same_trees sources files n e =
 same_texts : (sources : List Source) → map text_of (map read_of sources) ≡ map (λ (s : Source). text_view s.text) sources
 same_texts sources = map-map text_of read_of sources
 
-module _ (words : List (List ℕ)) (held : Option Files) (sources : List Source) (files : List File) (complete : Complete words held sources)
+module _ (out : List ℕ) (words : List (List ℕ)) (held : Option Files) (sources : List Source) (files : List File) (complete : Complete words held sources)
     (are : files ≡ map (λ t. t.file) sources) where
   trees : views.sources_of files ≡ sources_of (map read_of sources)
   trees = same_trees sources files complete.numbered are
@@ -109,15 +111,15 @@ module _ (words : List (List ℕ)) (held : Option Files) (sources : List Source)
   -- a fault of the set
   pub fault_owed : (texts : List (List ℕ × List ℕ)) (e : Entry) (line : List ℕ) → texts ≡ map (λ (s : Source). text_view s.text) sources
       → FirstFault (views.sources_of files) e → IsRefusalLine (text_in texts e.file).0 (text_in texts e.file).1 e line
-      → RefusalOwed words held 1 line
+      → RefusalOwed (midl (out, words)) held 1 line
   fault_owed texts e line same first said = record {
     low = omega arith;
     high = omega arith;
     matched = λ e. absurd (omega (arith, e));
-    owed = λ out. record {
+    owed = record {
       files = complete.files;
       may_hold = complete.may_hold;
-      replies = inr (inl (record {
+      holds = inr (inl (record {
         reads = map read_of sources;
         read = complete.none;
         fault = e;
@@ -130,13 +132,13 @@ module _ (words : List (List ℕ)) (held : Option Files) (sources : List Source)
   }
 
   -- an image is written
-  pub image_owed : (bytes : List ℕ) → Made (views.sources_of files) bytes → (out : List ℕ) → Owes (midl_command out words) held (done out bytes)
-  image_owed bytes made out =
+  pub image_owed : (bytes : List ℕ) → Made (views.sources_of files) bytes → Owes (command_for (midl (out, words))) held (done out bytes)
+  image_owed bytes made =
       let here : Made (sources_of (map read_of sources)) bytes = subst (λ (ts : List Tree). Made ts bytes) trees made in
       record {
         files = complete.files;
         may_hold = complete.may_hold;
-        replies = inr (inr (record {
+        holds = inr (inr (record {
           reads = map read_of sources;
           read = complete.none;
           types = here.made.types;

@@ -29,7 +29,9 @@ use Rattle.winmd_write.specs.Writable.{Writable}
 use Rattle.winmd_writer.specs.Finished.{StrictFor}
 use Rattle.writable_sets.specs.Stated.{HasWidths}
 use Rattle.wr_tools.specs.Made.{Made, MadeOf, RefusedFirst, RefusedOfTypes}
-use Rattle.wr_tools.specs.Midl.{midl_command}
+use Rattle.wr_outside.specs.Files.{Files}
+use Rattle.wr_tools.specs.Reply.{Reply}
+use Rattle.wr_tools.specs.Midl.{MidlReplies, IsRight, midl_command}
 use Rattle.wr_tools.specs.Sets.{sources_of, HasTypes, FirstFault, Unbroken}
 use Rattle.wr_tools.proofs.EndLemmas.{IsSettled}
 
@@ -117,8 +119,11 @@ no_fault sources e u (inr (resolved, inl first)) = none_first (IsClash (Declares
 no_fault sources e u (inr (resolved, inr b)) = none_first _ e (u.kept b.types b.places b.has.full) b.first
 
 -- a set that is right is compiled
-pub midl_settled : (out : List ℕ) (words : List (List ℕ)) → IsSettled (midl_command out words)
-midl_settled out words files reply ok (inl f) = absurd (no_first words files ok.reads f.name f.event ok.read f.first)
-midl_settled out words files reply ok (inr (inl r)) =
+settled_at : (out : List ℕ) (words : List (List ℕ)) (files : Files) (reply : Reply) → IsRight words files → MidlReplies out words files reply → reply.status ≡ 0
+settled_at out words files reply ok (inl f) = absurd (no_first words files ok.reads f.name f.event ok.read f.first)
+settled_at out words files reply ok (inr (inl r)) =
     absurd (no_fault (sources_of r.reads) r.fault (subst (λ (rs : List Read). Unbroken (sources_of rs)) (one_set words files ok.reads r.reads ok.read r.read) ok.unbroken) r.first)
-midl_settled out words files reply ok (inr (inr c)) = ap (λ r. r.status) c.is
+settled_at out words files reply ok (inr (inr c)) = ap (λ r. r.status) c.is
+
+pub midl_settled : (out : List ℕ) (words : List (List ℕ)) → IsSettled (midl_command out words)
+midl_settled out words told reply ok owed = settled_at out words owed.files reply (subst (IsRight words) owed.may_hold ok) owed.holds

@@ -1,6 +1,5 @@
 -- What is owed for words that don't match.
-use Rattle.std.proofs.Common.{Option, None, Some, refl}
-use Rattle.std.specs.FinMap as map
+use Rattle.std.proofs.Common.{Option, refl}
 use Rattle.wr_outside.specs.Files.{Files}
 use Rattle.wr_tools.specs.Reply.{refusal}
 use Rattle.wr_tools.specs.Command.{Owes}
@@ -8,8 +7,7 @@ use Rattle.wr_tools.specs.Midl.{unmatched, unmatched_command}
 use Rattle.wr_tools.proofs.EndLemmas.{IsSettled}
 
 pub unmatched_owed : (held : Option Files) → Owes unmatched_command held (refusal 2 unmatched)
-unmatched_owed None = record { files = map.empty; may_hold = tt; replies = refl }
-unmatched_owed (Some files) = record { files = files; may_hold = refl; replies = refl }
+unmatched_owed held = refl
 
 -- words that don't match are never accepted
 pub unmatched_settled : IsSettled unmatched_command

@@ -6,6 +6,7 @@ pub mod Answers
 pub mod Sets
 pub mod Made
 pub mod Midl
+pub mod Merge
 pub mod Words
 pub mod Said
 pub mod Outcomes

@@ -12,6 +12,7 @@ use Rattle.source_set.specs.Found.{Read}
 use Rattle.source_set.specs.Lines.{IsRefusalLine}
 use Rattle.wr_tools.specs.Reply.{Reply, refusal, done}
 use Rattle.wr_tools.specs.Command.{Command}
+use Rattle.wr_tools.specs.Outside.{ForSome}
 use Rattle.source_set.specs.Texts.{text_at}
 use Rattle.wr_tools.specs.Sets.{sources_of, FirstFault, Sound, Unbroken, Image}
 
@@ -76,8 +77,8 @@ pub record IsRight (words : List (List ℕ)) (files : Files) : Type 0 where
 abbrev pub midl_command : List ℕ → List (List ℕ) → Command
 midl_command out words = record {
   matched = true;
-  replies = MidlReplies out words;
-  awaits = λ files name. Awaits words files name;
+  replies = λ held reply. ForSome held (λ files. MidlReplies out words files reply);
+  awaits = λ held name. ForSome held (λ files. Awaits words files name);
   accepts = IsRight words;
   writes = out ∷ [];
   prints = false;
@@ -87,8 +88,8 @@ midl_command out words = record {
 abbrev pub unmatched_command : Command
 unmatched_command = record {
   matched = false;
-  replies = λ files reply. reply ≡ refusal 2 unmatched;
-  awaits = λ files name. ⊥;
+  replies = λ held reply. reply ≡ refusal 2 unmatched;
+  awaits = λ held name. ⊥;
   accepts = λ files. ⊥;
   writes = [];
   prints = false;

@@ -27,3 +27,9 @@ pub record NoneRose (before after : Outside) : Type 0 where
 -- these are the files of the store, as far as it tells them
 abbrev pub MayHold : Option Files → Files → Type 0
 MayHold held files = IfSome held (λ told. told ≡ files)
+
+-- it holds of some files that the store may hold
+pub record ForSome (held : Option Files) (Holds : Files → Type 0) : Type 0 where
+  pub files : Files
+  pub may_hold : MayHold held files
+  pub holds : Holds files

@@ -2,8 +2,10 @@
 //! when it comes is one record of the call's contract, `Answers`.
 #![tactic(auto)]
 
-mod midl;
+mod lines;
+mod merging;
 mod outcome;
+mod run;
 mod said;
 mod say;
 mod set;

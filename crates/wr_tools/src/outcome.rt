@@ -6,6 +6,7 @@ ghost use Rattle.wr_outside.specs.Cause.{Rose};
 ghost use Rattle.source_set.specs.Reads.{sources_in};
 ghost use Rattle.source_set.specs.Stops.{Complete, StopIs};
 ghost use Rattle.source_set.specs.Stops as stops;
+ghost use Rattle.winrt_words.specs.Words.{midl};
 ghost use Rattle.wr_tools.specs.Outcomes.{OutcomeIs, IsReadFault};
 
 use crate::said::Said;
@@ -28,7 +29,7 @@ pub(crate) enum Outcome {
 
 /// What a set comes to that isn't read whole.
 fn stopped(alloc: Global, stop: SourceStop) -> Result<Outcome, Memory>
-    ensures is { (words : List (List ℕ)) (held : Option Files) → StopIs words held stop → IfOk result (OutcomeIs words held) }
+    ensures is { (out : List ℕ) (words : List (List ℕ)) (held : Option Files) → StopIs words held stop → IfOk result (OutcomeIs (midl (out, words)) held) }
     ensures fault { IfOk result (λ outcome. IsReadFault outcome → stops.IsReadFault stop) }
 {
     match stop {
@@ -47,7 +48,7 @@ fn stopped(alloc: Global, stop: SourceStop) -> Result<Outcome, Memory>
 /// What a set comes to whose files have trees. These are let go as soon as nothing asks for them; a refusal's line needs the texts alone.
 fn resolved(alloc: Global, set: SourceSet) -> Result<Outcome, Memory>
     requires { length set.texts.items ≡ length set.files.items }
-    ensures is { (words : List (List ℕ)) (held : Option Files) → Complete words held (sources_in set) → IfOk result (OutcomeIs words held) }
+    ensures is { (out : List ℕ) (words : List (List ℕ)) (held : Option Files) → Complete words held (sources_in set) → IfOk result (OutcomeIs (midl (out, words)) held) }
     ensures fault { IfOk result (λ outcome. ¬ (IsReadFault outcome)) }
 {
     let SourceSet { texts, files } = set;
@@ -67,7 +68,7 @@ pub(crate) fn compiled<S: Store>(
     words: &[String],
     store: &mut S,
 ) -> Result<Outcome, Memory>
-    ensures is { IfOk result (OutcomeIs (map string_bytes words.now) (S.held store.old)) }
+    ensures is { (out : List ℕ) → IfOk result (OutcomeIs (midl (out, map string_bytes words.now)) (S.held store.old)) }
     ensures kept { S.held store.new ≡ S.held store.old }
     ensures later { S.faults store.old ≤ S.faults store.new }
     ensures rose { IfOk result (λ outcome. IsReadFault outcome → Rose (S.faults store.old) (S.faults store.new)) }

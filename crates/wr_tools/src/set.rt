@@ -34,7 +34,8 @@ fn tell_widths(types: &Types)
     }
 }
 
-fn image_told(alloc: Global, types: &Types) -> Result<Vec<u8>, Memory>
+/// The image of a set, which states it where that is `Writable`.
+pub(crate) fn image_told(alloc: Global, types: &Types) -> Result<Vec<u8>, Memory>
     ensures widths { OnOk result (All HasWidths types.now) }
     ensures strict { IfOk result (λ bytes. StrictFor (map decl_tree types.now) bytes.items) }
     ensures states { IfOk result (λ bytes. Writable types.now → TypesOf bytes.items ≡ Ok (map decl_tree types.now)) }

@@ -2,4 +2,4 @@ use Rattle.std.proofs.Common.{map, string_bytes}
 use Rattle.wr_tools.proofs.outcome.compiled.Goals as goal
 
 pub returns-in-Err-clause-is : goal.returns-in-Err-clause-is
-returns-in-Err-clause-is g c = c.stopped.ensures.is (map string_bytes c.args.words.now) (g.S.Store.held c.args.store.now) c.in-Err.ensures.stopped
+returns-in-Err-clause-is g c = λ out. c.stopped.ensures.is out (map string_bytes c.args.words.now) (g.S.Store.held c.args.store.now) c.in-Err.ensures.stopped
