@@ -3,4 +3,6 @@ pub mod EndLemmas
 mod SourceLaws
 mod SetLemmas
 mod OwedLemmas
+mod MergeLemmas
+mod CommandLemmas
 mod WordsOwed

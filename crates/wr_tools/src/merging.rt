@@ -18,7 +18,7 @@ use crate::said::Said;
 use crate::set::image_told;
 use image_set::{ImageStop, fault_line, images};
 use md_merge::merge;
-use read_sets::image_sets_can_be_merged;
+use read_sets::{image_sets_can_be_merged, union_is_stated};
 use std::alloc::{AllocError, Global};
 use wr_base::{Memory, Stop, Types};
 use wr_outside::Store;
@@ -48,6 +48,7 @@ fn united(alloc: Global, out: &str, sets: &[Types]) -> Result<Outcome, Memory>
     ensures is { (words : List (List ℕ)) (held : Option Files) → AreTaken held words sets.now → IfOk result (OutcomeIs (mdmerge (out.now, words)) held) }
     ensures fault { IfOk result (λ outcome. ¬ (IsReadFault outcome)) }
 {
+    union_is_stated();
     match merge(alloc, sets) {
         Ok(types) => Ok(Outcome::Image(image_told(alloc, &types)?)),
         Err(Stop::Refused(refusal)) => {

@@ -7,4 +7,4 @@ use Rattle.wr_tools.proofs.tool.unmatched.Goals as goal
 pub returns : goal.returns
 returns g c =
     refuses _ _ _ 2 c.say.result unmatched unmatched_settled (omega arith) (omega arith) (λ e. refl) (λ e. refl)
-    (unmatched_owed _) refl refl (record { store = omega arith; out = omega arith; err = c.say.ensures.later }) c.say.ensures.says
+    (unmatched_owed (g.S.Store.held c.args.store.now)) refl refl (record { store = omega arith; out = omega arith; err = c.say.ensures.later }) c.say.ensures.says
