@@ -1,5 +1,5 @@
 -- What holds of each command.
-use Rattle.std.proofs.Common.{◌≡◌, true, ap, arith, refl}
+use Rattle.std.proofs.Common.{◌≡◌, true, arith, refl}
 use Rattle.std.specs.List.{Contains}
 use Rattle.winrt_words.specs.Words.{Named, midl, mdmerge}
 use Rattle.wr_tools.specs.Words.{command_for, out_of}

@@ -1,11 +1,11 @@
 -- What is owed for images, and what merges nothing is refused of.
-use Rattle.std.proofs.Common.{◌≡◌, ◌≢◌, ℕ, zero, suc, ◌+◌, ◌<◌, ◌≤◌, List, [], ◌∷◌, ◌++◌, map, length, Option, None, Some, Ok, Err, refl, sym, ap, subst, ◌∙◌, inl, inr, arith}
+use Rattle.std.proofs.Common.{◌≡◌, ◌≢◌, ℕ, zero, suc, ◌+◌, ◌<◌, ◌≤◌, List, [], ◌∷◌, ◌++◌, map, length, Option, None, Some, Ok, Err, refl, ap, subst, inl, inr, arith}
 use Rattle.std.specs.List.{All}
 use Rattle.ranked.specs.declared.stop.Stop.TheVariants.{Refused}
 use Rattle.winmd_strict.specs.Reading.{TypesOf}
 use Rattle.winmd_write.specs.Writable.{Writable}
 use Rattle.winmd_writer.specs.Finished.{StrictFor}
-use Rattle.writable_sets.specs.Stated.{HasWidths, IsStated, NoGuid}
+use Rattle.writable_sets.specs.Stated.{IsStated, NoGuid}
 use Rattle.writable_sets.proofs.Writing.{each_fits, few_accepted, small_accepted}
 use Rattle.wr_base.specs.Trees.{decl_tree}
 use Rattle.wr_base.specs.declared.declaration.Declaration.{Declaration}
@@ -13,7 +13,6 @@ use Rattle.wr_outside.specs.Files.{Files}
 use Rattle.image_set.specs.Images.{AreTaken, Awaits, TakenBy, TakenFrom, FirstEvent, Event, too_many, missing, too_long, faulty}
 use Rattle.image_set.proofs.OutcomeLaws.{same_sets, none_stops}
 use Rattle.md_merge.specs.Merged.{IsMerged, IsRefusalOf}
-use Rattle.md_merge.specs.Unions.{IsUnion}
 use Rattle.md_merge.specs.declared.refusal.MergeRefusal.{MergeRefusal}
 use Rattle.md_merge.proofs.MergeLaws.{gives}
 use Rattle.read_sets.specs.Images.{IsImageSet}

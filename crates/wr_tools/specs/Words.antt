@@ -1,6 +1,6 @@
 -- The command that the words of a call name.
 use Rattle.std.specs.Prelude.{ℕ, Option, None, Some, List}
-use Rattle.winrt_words.specs.Words.{Names, Named, midl, mdmerge, named_in}
+use Rattle.winrt_words.specs.Words.{Named, midl, mdmerge, named_in}
 use Rattle.wr_tools.specs.Command.{Command}
 use Rattle.wr_tools.specs.Midl.{midl_command, unmatched_command}
 use Rattle.wr_tools.specs.Merge.{merge_command}

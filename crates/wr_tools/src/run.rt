@@ -28,11 +28,7 @@ fn out_of(command: &Command) -> &str
 }
 
 // What the command comes to before anything is written or said.
-fn outcome_of<S: Store>(
-    alloc: Global,
-    command: &Command,
-    store: &mut S,
-) -> Result<Outcome, Memory>
+fn outcome_of<S: Store>(alloc: Global, command: &Command, store: &mut S) -> Result<Outcome, Memory>
     ensures is { IfOk result (OutcomeIs (command_seen command.now) (S.held store.old)) }
     ensures kept { S.held store.new ≡ S.held store.old }
     ensures later { S.faults store.old ≤ S.faults store.new }

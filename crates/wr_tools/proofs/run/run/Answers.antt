@@ -1,4 +1,4 @@
-use Rattle.std.proofs.Common.{◌≡◌, ◌++◌, true, false, subst, sym, inl, ◌∙◌, ap, refl, Err, map, string_bytes, arith, List, ℕ}
+use Rattle.std.proofs.Common.{◌≡◌, ◌++◌, true, false, subst, sym, inl, ◌∙◌, ap, refl, Err, string_bytes, arith, List, ℕ}
 use Rattle.winrt_words.specs.Words.{Named, command_seen}
 use Rattle.wr_outside.specs.Files.{with_file, WritesSome}
 use Rattle.wr_tools.specs.declared.said.Said.{Said}
