@@ -39,7 +39,7 @@ pub names_are : (types : List Declaration) (u : Used) (s : SetNames) → IsUsed 
 names_are types u s is rises t r i m =
     let ds : List DeclTree = map decl_tree types in
     let names : s.types.types.items ≡ map name_of ds = t ∙ same_names types in
-    let members : (n : List ℕ) → list_any (bytes_eq n) (all_names u) ≡ list_any (bytes_eq n) (used names_in_cell (lines_behind ds)) = λ n. sym (contains_texts u.names n) ∙ is.names n in
+    let members : (n : List ℕ) → list_any (bytes_eq n) (all_names u) ≡ list_any (bytes_eq n) (used names_in_cell (lines_behind ds)) = λ n. sym (contains_texts u.names.set n) ∙ is.names n in
     let refs : map string_bytes s.types.refs.items ≡ used_refs (map name_of ds) (lines_behind ds) =
     r ∙ ap (λ (ns : List (List ℕ)). filter (λ full. not (is_declared ns full)) (all_names u)) (same_names types)
     ∙ references_are (λ full. not (is_declared (map name_of ds) full)) (all_names u) (used names_in_cell (lines_behind ds)) rises members in

@@ -22,6 +22,7 @@ use Rattle.winmd_lines.specs.Names.{is_maker, makers_in_cell, specs_in_cell}
 use Rattle.winmd_uses.specs.Instances.{Adds, Agrees, add_once, all_of}
 use Rattle.winmd_uses.specs.Kinds.{nothing}
 use Rattle.winmd_uses.specs.Takes.{Says, Takes, add_each, both, cell_says, has_maker, has_name, instances_of, lines_say, maker_alone, named_by, names_alone, spec_alone}
+use Rattle.winmd_uses.specs.declared.names.Names.{Names}
 use Rattle.winmd_uses.specs.declared.used.Used.{Used}
 
 pub either : (b : Bool) → (b ≡ true) ⊎ (b ≡ false)
@@ -216,23 +217,10 @@ takes_name name g h n m i = record {
   specs = λ a. ap all_of i;
 }
 
--- one that is there already
-pub takes_known : (name : List ℕ) (g : Used) → has_name g name ≡ true → Takes (names_alone (name ∷ [])) g g
-takes_known name g e = record {
-  names = λ other. known other (either (bytes_eq other name));
-  makers = λ maker. sym (or_false (has_maker g maker));
-  agrees = λ a. a;
-  specs = λ a. refl;
-}
-  where
-    known : (other : List ℕ) → (bytes_eq other name ≡ true) ⊎ (bytes_eq other name ≡ false) → has_name g other ≡ (has_name g other || (bytes_eq other name || false))
-    known other (inl t) = (let is : other ≡ name = (bytes_decides other name).0 t in let there : has_name g other ≡ true = ap (has_name g) is ∙ e in rw there refl)
-    known other (inr t) = rw t (sym (or_false (has_name g other)))
-
 -- an instance is taken
 pub takes_instance : (u : UseTree) (g h : Used) → h.names ≡ g.names → h.makers ≡ g.makers → Adds u g.instances h.instances → Takes (spec_alone u) g h
 takes_instance u g h n m a = record {
-  names = λ other. ap (λ (s : BTreeSet (String Global)). contains_text s other) n ∙ sym (or_false (has_name g other));
+  names = λ other. ap (λ (s : Names). contains_text s.set other) n ∙ sym (or_false (has_name g other));
   makers = λ maker. ap (λ (ms : List Bool). get_or ms (maker_number maker) false) m ∙ sym (or_false (has_maker g maker));
   agrees = a.agrees;
   specs = a.all;
@@ -249,11 +237,11 @@ maker_whole maker =
     same_lists (both (maker_alone maker) (names_alone (maker_type maker ∷ names))) (cell_says (MadeBy maker))
     (ap (λ (ns : List (List ℕ)). maker_type maker ∷ ns) (sym (append-nil (names ++ []) ∙ append-nil names))) refl refl
 
--- a text that is put in is a name that is taken
-pub takes_put : {X : Type 0} (r : Result Unit X) (name : List ℕ) (text : String Global) (g h : Used) → string_bytes text ≡ name → h.makers ≡ g.makers → h.instances ≡ g.instances → OnOk r (Updates string_cmp g.names h.names text true)
+-- a name that is put in is taken
+pub takes_put : {X : Type 0} (r : Result Unit X) (name : List ℕ) (g h : Used) → h.makers ≡ g.makers → h.instances ≡ g.instances → OnOk r ((other : List ℕ) → has_name h other ≡ (bytes_eq other name || has_name g other))
     → OnOk r (Takes (names_alone (name ∷ [])) g h)
-takes_put (Ok x) name text g h e m i u = takes_name name g h (λ other. text_put g.names h.names text u other ∙ ap (λ (n : List ℕ). bytes_eq other n || has_name g other) e) m i
-takes_put (Err z) name text g h e m i u = tt
+takes_put (Ok x) name g h m i n = takes_name name g h n m i
+takes_put (Err z) name g h m i n = tt
 
 -- what a declaration of a kind says is what its lines say
 pub taken_kind : {X : Type 0} (r : Result Unit X) (a : Says) (d e : DeclTree) (g h : Used) → d ≡ e → Same a (lines_say (lines_of e)) → OnOk r (Takes a g h) → OnOk r (Takes (lines_say (lines_of d)) g h)

@@ -13,11 +13,11 @@ use Rattle.winmd_uses.specs.declared.used.Used.{Used}
 -- ---- what there is
 
 abbrev pub has_name : Used → List ℕ → Bool
-has_name u name = contains_text u.names name
+has_name u name = contains_text u.names.set name
 
 -- the same as a list, in order
 abbrev pub all_names : Used → List (List ℕ)
-all_names u = map string_bytes u.names.keys
+all_names u = map string_bytes u.names.set.keys
 
 abbrev pub has_maker : Used → Maker → Bool
 has_maker u maker = get_or u.makers (maker_number maker) false

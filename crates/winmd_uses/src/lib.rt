@@ -8,6 +8,7 @@ mod keys;
 mod kinds;
 mod makers;
 mod members;
+mod names;
 mod takes;
 mod used;
 mod uses;

@@ -1,20 +1,29 @@
 //! Members of interfaces.
 
-ghost use Rattle.std.specs.Prelude.{◌≡◌, ◌||◌, [], ℕ, List, OnOk, bytes_eq, map, not};
+ghost use Rattle.std.specs.Prelude.{◌≡◌, ◌||◌, [], ℕ, List, OnOk, bytes_eq, map, not, true};
 ghost use Rattle.std.specs.List.{list_any};
-ghost use Rattle.std.specs.BTreeSet.{contains_text};
+ghost use Rattle.std.specs.BTreeSet.{Updates, contains_text};
+ghost use Rattle.std.specs.String.{string_cmp};
 ghost use Rattle.wr_base.specs.Trees.{member_tree, signature_tree, tree_of};
 ghost use Rattle.winmd_sets.specs.Members.{member_lines, members_lines, method_names};
 ghost use Rattle.winmd_uses.specs.Earlier.{event_says, method_lines_if, texts_in};
 ghost use Rattle.winmd_uses.specs.Takes.{Takes, lines_say};
 
 use crate::makers::Maker;
-use crate::takes::mark;
 use crate::used::Used;
 use ranked::{Memory, Name};
-use std::alloc::Global;
+use std::alloc::{AllocError, Global};
 use std::collections::BTreeSet;
 use wr_base::{Member, Signature, TypeUse};
+
+fn mark(names: &mut BTreeSet<String>, name: String) -> Result<(), Memory>
+    ensures { OnOk result (Updates string_cmp names.old names.new name true) }
+{
+    match names.insert(name) {
+        Ok(_) => Ok(()),
+        Err(_) => Err(AllocError),
+    }
+}
 
 // The name of a method is among the earlier ones from now on.
 fn note(alloc: Global, earlier: &mut BTreeSet<String>, member: &Member) -> Result<(), Memory>

@@ -1,8 +1,6 @@
 //! Names, constructors and instances, taken one after the other.
 
-ghost use Rattle.std.specs.Prelude.{◌≡◌, ◌∷◌, [], OnOk, map, string_bytes, true};
-ghost use Rattle.std.specs.BTreeSet.{Updates};
-ghost use Rattle.std.specs.String.{string_cmp};
+ghost use Rattle.std.specs.Prelude.{◌≡◌, ◌∷◌, [], OnOk, map, string_bytes};
 ghost use Rattle.wr_base.specs.Trees.{tree_of};
 ghost use Rattle.winmd_lines.specs.Lines.{MadeBy};
 ghost use Rattle.winmd_lines.specs.Makers.{maker_signature, maker_type};
@@ -12,27 +10,19 @@ ghost use Rattle.winmd_uses.specs.Takes.{IsEmpty, Takes, all_names, cell_says, h
 
 use crate::instances::Instances;
 use crate::makers::Maker;
+use crate::names::Names;
 use crate::used::Used;
 use ranked::Memory;
-use std::alloc::{AllocError, Global};
+use std::alloc::Global;
 use std::collections::BTreeSet;
 use wr_base::TypeUse;
-
-pub(crate) fn mark(names: &mut BTreeSet<String>, name: String) -> Result<(), Memory>
-    ensures { OnOk result (Updates string_cmp names.old names.new name true) }
-{
-    match names.insert(name) {
-        Ok(_) => Ok(()),
-        Err(_) => Err(AllocError),
-    }
-}
 
 impl Used {
     pub(crate) fn new(alloc: Global) -> Used
         ensures { IsEmpty result }
     {
         Used {
-            names: BTreeSet::new(alloc),
+            names: Names::new(alloc),
             makers: [false; 9],
             instances: Instances::new(alloc),
             alloc,
@@ -43,14 +33,14 @@ impl Used {
     pub fn names(&self) -> &BTreeSet<String>
         ensures { map string_bytes result.now.keys ≡ all_names self.now }
     {
-        &self.names
+        &self.names.set
     }
 
     /// Whether a type of this full name is named.
     pub fn has_name(&self, name: &str) -> bool
         ensures { result ≡ has_name self.now name.now }
     {
-        self.names.contains(name)
+        self.names.has(name)
     }
 
     /// Whether a constructor is used.
@@ -70,10 +60,7 @@ impl Used {
     pub(crate) fn take_name(&mut self, name: &str) -> Result<(), Memory>
         ensures { OnOk result (Takes (names_alone (name.now ∷ [])) self.old self.new) }
     {
-        if self.has_name(name) {
-            return Ok(());
-        }
-        mark(&mut self.names, String::from_str(self.alloc, name)?)
+        self.names.take(self.alloc, name)
     }
 
     // The constructor itself, without the names in its row.

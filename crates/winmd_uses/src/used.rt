@@ -3,13 +3,13 @@
 ghost use Rattle.std.specs.Prelude.{◌≡◌, length};
 
 use crate::instances::Instances;
+use crate::names::Names;
 use std::alloc::Global;
-use std::collections::BTreeSet;
 
 /// What the rows of a set use.
 #[derive(Drop)]
 pub struct Used {
-    pub(crate) names: BTreeSet<String>,
+    pub(crate) names: Names,
     pub(crate) makers: [bool; 9],
     pub(crate) instances: Instances,
     pub(crate) alloc: Global,
