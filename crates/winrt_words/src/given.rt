@@ -1,9 +1,9 @@
 //! What words give to a command whose form takes them.
 
-ghost use Rattle.std.specs.Prelude.{◌≡◌, IfOk, IsErr, None, Ok, [], map, string_bytes, option_map, unwrap_or, codes};
-ghost use Rattle.clap.specs.Words.{found_of, first_value, matched_of, raw_values, kind_of, rows_of};
+ghost use Rattle.std.specs.Prelude.{◌≡◌, IfOk, IsErr, None, Ok, codes, is_some, map, string_bytes, option_map};
+ghost use Rattle.clap.specs.Words.{found_of, kind_of, matched_of, raw_values, rows_of};
 ghost use Rattle.clap.specs.declared.error.kind.ErrorKind.TheVariants.{OutOfMemory};
-ghost use Rattle.winrt_words.specs.Forms.{files_form};
+ghost use Rattle.winrt_words.specs.Forms.{files_form, takes};
 ghost use Rattle.winrt_words.specs.Words.{names_by, names_in, names_seen};
 
 use crate::form::takes_files;
@@ -31,31 +31,37 @@ fn copied(alloc: Global, texts: &[&str]) -> Result<Vec<String>, AllocError>
     Ok(copies)
 }
 
-// The value of `-o`.
-fn out_in(alloc: Global, matches: &ArgMatches<'_>) -> Result<String, AllocError>
-    ensures { IfOk result (λ out. string_bytes out ≡ unwrap_or (first_value (found_of matches.now) (codes "out")) []) }
+fn given_of(alloc: Global, out: &str, files: &[&str]) -> Result<Given, AllocError>
+    ensures { IfOk result (λ given. names_seen given ≡ (out.now, map (λ text. text.now) files.now)) }
 {
-    String::from_str(alloc, matches.get_str("out").unwrap_or(""))
+    Ok(Given {
+        out: String::from_str(alloc, out)?,
+        files: copied(alloc, files)?,
+    })
 }
 
-// The files.
-fn files_in(alloc: Global, matches: &ArgMatches<'_>) -> Result<Vec<String>, AllocError>
-    ensures { IfOk result (λ files. map string_bytes files.items ≡ unwrap_or (option_map raw_values (matched_of (found_of matches.now) (codes "files"))) []) }
+// What a parse found beside OUT, where it found the files.
+fn given_with(
+    alloc: Global,
+    out: &str,
+    matches: &ArgMatches<'_>,
+) -> Result<Option<Given>, AllocError>
+    ensures { IfOk result (λ given. option_map names_seen given ≡ option_map (λ files. (out.now, files)) (option_map raw_values (matched_of (found_of matches.now) (codes "files")))) }
 {
     match matches.get_strs("files") {
-        Some(files) => copied(alloc, files),
-        None => Ok(Vec::new(alloc)),
+        Some(files) => Ok(Some(given_of(alloc, out, files)?)),
+        None => Ok(None),
     }
 }
 
-// What a parse found.
-fn given_in(alloc: Global, matches: &ArgMatches<'_>) -> Result<Given, AllocError>
-    ensures { IfOk result (λ given. names_seen given ≡ names_in (rows_of (found_of matches.now))) }
+// What a parse found, where it found a value of `-o` and the files.
+fn given_in(alloc: Global, matches: &ArgMatches<'_>) -> Result<Option<Given>, AllocError>
+    ensures { IfOk result (λ given. option_map names_seen given ≡ names_in (rows_of (found_of matches.now))) }
 {
-    Ok(Given {
-        out: out_in(alloc, matches)?,
-        files: files_in(alloc, matches)?,
-    })
+    match matches.get_str("out") {
+        Some(out) => given_with(alloc, out, matches),
+        None => Ok(None),
+    }
 }
 
 // A parse that failed: for want of memory, or by the words.
@@ -77,10 +83,12 @@ pub(crate) fn files_given<'a>(
     name: &'a str,
     words: &'a [String],
 ) -> Result<Option<Given>, AllocError>
-    ensures { IfOk result (λ given. option_map names_seen given ≡ names_by (files_form name.entry.now) (map string_bytes words.entry.now)) }
+    ensures names { IfOk result (λ given. option_map names_seen given ≡ names_by (files_form name.entry.now) (map string_bytes words.entry.now)) }
+    // Of words that the form takes OUT and the files were found.
+    ensures taken { IfOk result (λ given. is_some given ≡ takes (files_form name.entry.now) (map string_bytes words.entry.now)) }
 {
     match takes_files(alloc, name)?.try_get_matches_from(words) {
-        Ok(matches) => Ok(Some(given_in(alloc, &matches)?)),
+        Ok(matches) => given_in(alloc, &matches),
         Err(error) => untaken(&error),
     }
 }
