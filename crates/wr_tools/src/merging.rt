@@ -1,11 +1,11 @@
 //! What merging comes to before anything is written or said.
 
-ghost use Rattle.std.specs.Prelude.{◌≡◌, ◌≤◌, ◌<◌, ◌^◌, List, ℕ, Option, map, string_bytes, IfOk};
+ghost use Rattle.std.specs.Prelude.{◌≡◌, ◌≤◌, ◌<◌, ◌^◌, List, ℕ, Option, map, string_bytes, IfErr, IfOk};
 ghost use Rattle.std.specs.List.{All};
 ghost use Rattle.image_set.specs.Images.{AreTaken};
 ghost use Rattle.image_set.specs.Stops as images;
-ghost use Rattle.md_merge.specs.Merged.{IsSet};
-ghost use Rattle.md_merge.specs.Unions.{all_of};
+ghost use Rattle.md_merge.specs.Merged.{IsMerged, IsRefusalOf, IsSet};
+ghost use Rattle.md_merge.specs.Unions.{OnRefused, all_of};
 ghost use Rattle.winrt_words.specs.Words.{mdmerge};
 ghost use Rattle.wr_base.specs.Places.{total};
 ghost use Rattle.wr_outside.specs.Cause.{Rose};
@@ -17,7 +17,7 @@ use crate::outcome::Outcome;
 use crate::said::Said;
 use crate::set::image_told;
 use image_set::{ImageStop, fault_line, images};
-use md_merge::merge;
+use md_merge::{MergeRefusal, merge};
 use read_sets::{image_sets_can_be_merged, union_is_stated};
 use std::alloc::{AllocError, Global};
 use wr_base::{Memory, Stop, Types};
@@ -41,15 +41,25 @@ fn halted(alloc: Global, stop: ImageStop) -> Result<Outcome, Memory>
     }
 }
 
+/// The union of the sets, which are dropped before it is written.
+fn union_of(alloc: Global, sets: Vec<Types>) -> Result<Types, Stop<MergeRefusal>>
+    requires each { All IsSet sets.items }
+    requires few { total (all_of sets.items) < 2 ^ 32 }
+    ensures ok { IfOk result (IsMerged sets.items) }
+    ensures refused { IfErr result (OnRefused (IsRefusalOf sets.items)) }
+{
+    merge(alloc, &sets)
+}
+
 /// What the sets of images come to.
-fn united(alloc: Global, out: &str, sets: &[Types]) -> Result<Outcome, Memory>
-    requires each { All IsSet sets.now }
-    requires few { total (all_of sets.now) < 2 ^ 32 }
-    ensures is { (words : List (List ℕ)) (held : Option Files) → AreTaken held words sets.now → IfOk result (OutcomeIs (mdmerge (out.now, words)) held) }
+fn united(alloc: Global, out: &str, sets: Vec<Types>) -> Result<Outcome, Memory>
+    requires each { All IsSet sets.items }
+    requires few { total (all_of sets.items) < 2 ^ 32 }
+    ensures is { (words : List (List ℕ)) (held : Option Files) → AreTaken held words sets.items → IfOk result (OutcomeIs (mdmerge (out.now, words)) held) }
     ensures fault { IfOk result (λ outcome. ¬ (IsReadFault outcome)) }
 {
     union_is_stated();
-    match merge(alloc, sets) {
+    match union_of(alloc, sets) {
         Ok(types) => Ok(Outcome::Image(image_told(alloc, &types)?)),
         Err(Stop::Refused(refusal)) => {
             let line = merge_line(alloc, out, &refusal)?;
@@ -73,7 +83,7 @@ pub(crate) fn merged<S: Store>(
 {
     image_sets_can_be_merged();
     match images(alloc, store, words) {
-        Ok(sets) => united(alloc, out, &sets),
+        Ok(sets) => united(alloc, out, sets),
         Err(stop) => halted(alloc, stop),
     }
 }

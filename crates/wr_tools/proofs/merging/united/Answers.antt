@@ -5,7 +5,7 @@ use Rattle.wr_tools.proofs.merging.united.Goals as goal
 
 pub returns-in_ok-image_told-in-Ok-clause-is : goal.returns-in_ok-image_told-in-Ok-clause-is
 returns-in_ok-image_told-in-Ok-clause-is c = λ words held taken.
-    let sets : List (List Declaration) = c.args.sets.now in
+    let sets : List (List Declaration) = c.args.sets.items in
     let types : List Declaration = c.in-Ok.types in
     let merged = c.in-Ok.ensures.ok in
     let told = c.in_ok-image_told-in-Ok.ensures in
