@@ -106,16 +106,26 @@ last() {
     cat "$work/memory"
 }
 
-# compared WORD KIND N: so many, and a quarter
+# compared WORD KIND N: so many, and a quarter right after that, eight times over, since other work on a machine disturbs single
+# pairs. What is shown is the least time of each, and how many times as long all take in such a pair, as the median of the eight.
 compared() {
     "many_$2" "$3" > "$work/all"
     "many_$2" $(($3 / 4)) > "$work/quarter"
-    all=$(last "$work/all")
-    quarter=$(last "$work/quarter")
-    awk -v word="$1" -v all="$all" -v quarter="$quarter" -v n="$3" 'BEGIN {
-        split(all, a, " "); split(quarter, q, " ")
-        printf "%d %s: %.0f ms, an image of %.1f MiB of %d types, %.0f MiB of memory; a quarter: %.0f ms, ratio %.2f\n", n, word, a[1] / 1000, a[3] / 1048576, a[2], a[4] / 1024, q[1] / 1000, a[1] / q[1]
-    }'
+    for _ in $(seq 8); do
+        last "$work/all"
+        last "$work/quarter"
+    done | awk -v word="$1" -v n="$3" '
+        # the median of the ratios, which are put in order
+        function median(ratios,    i, j, one) {
+            for (i = 2; i <= pairs; i++)
+                for (j = i; j > 1 && ratios[j] < ratios[j - 1]; j--) { one = ratios[j]; ratios[j] = ratios[j - 1]; ratios[j - 1] = one }
+            return (ratios[int((pairs + 1) / 2)] + ratios[int(pairs / 2) + 1]) / 2
+        }
+        NR % 2 == 1 { before = $1; types = $2; length_ = $3; memory = $4; if (NR == 1 || $1 < all) all = $1 }
+        NR % 2 == 0 { ratios[++pairs] = before / $1; if (NR == 2 || $1 < quarter) quarter = $1 }
+        END {
+            printf "%d %s: %.0f ms, an image of %.1f MiB of %d types, %.0f MiB of memory; a quarter: %.0f ms; the median ratio of %d pairs: %.2f\n", n, word, all / 1000, length_ / 1048576, types, memory / 1024, quarter / 1000, pairs, median(ratios)
+        }'
 }
 
 many_enums 4 > "$work/few"
