@@ -19,7 +19,7 @@ use midl_lex::tokens;
 use midl_names::resolve;
 use midl_parse::parse;
 use midl_tree::File;
-use std::alloc::Global;
+use std::alloc::{AllocError, Global};
 use std::env;
 use std::fs;
 use std::test::Fail;
@@ -41,7 +41,7 @@ fn parsed(alloc: Global, number: u32, bytes: &[u8]) -> Option<File> {
 }
 
 /// How many items there are, or where the first fault stands.
-fn resolved(alloc: Global, files: &[File]) -> (u64, bool) {
+fn resolved(alloc: Global, files: Vec<File>) -> (u64, bool) {
     match resolve(alloc, files) {
         Ok(placed) => (placed.len() as u64, true),
         Err(Stop::Refused(refusal)) => (refusal.place.offset as u64, false),
@@ -49,22 +49,33 @@ fn resolved(alloc: Global, files: &[File]) -> (u64, bool) {
     }
 }
 
-fn main(rt: HostRuntime) -> Result<(), Fail> {
-    let mut files = Vec::new(rt.alloc());
+/// Those of the sources that are files.
+fn all_parsed(alloc: Global, sources: &[Vec<u8>]) -> Result<Vec<File>, AllocError> {
+    let mut files = Vec::new(alloc);
     let mut number = 0u32;
-    for word in env::args(&rt)?.skip(1) {
-        let bytes = fs::read(&rt, word.as_str())?;
-        match parsed(rt.alloc(), number, &bytes) {
-            Some(file) => files.push(file)?,
-            None => println!(rt; "no file")?,
+    for bytes in sources {
+        if let Some(file) = parsed(alloc, number, bytes) {
+            files.push(file)?;
         }
         number = number.wrapping_add(1);
+    }
+    Ok(files)
+}
+
+fn main(rt: HostRuntime) -> Result<(), Fail> {
+    let mut sources = Vec::new(rt.alloc());
+    for word in env::args(&rt)?.skip(1) {
+        sources.push(fs::read(&rt, word.as_str())?)?;
     }
     let mut least = u128::MAX;
     let mut answer = (0, false);
     for _ in 0..5 {
+        let files = all_parsed(rt.alloc(), &sources)?;
+        if files.len() != sources.len() {
+            println!(rt; "no file")?;
+        }
         let start = Instant::now(&rt)?;
-        answer = resolved(rt.alloc(), &files);
+        answer = resolved(rt.alloc(), files);
         let took = start.elapsed(&rt)?.as_micros();
         if took < least {
             least = took;

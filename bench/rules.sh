@@ -44,11 +44,11 @@ fn parsed(alloc: Global, number: u32, bytes: &[u8]) -> Option<File> {
 }
 
 /// The full types of the files, where names and synthesis refuse nothing.
-fn full_types(alloc: Global, files: &[File]) -> Option<PlacedTypes> {
+fn full_types(alloc: Global, files: Vec<File>) -> Option<PlacedTypes> {
     let Ok(placed) = resolve(alloc, files) else {
         return None;
     };
-    match full(alloc, &placed) {
+    match full(alloc, placed) {
         Ok(set) => Some(set),
         Err(_) => None,
     }
@@ -74,7 +74,7 @@ fn main(rt: HostRuntime) -> Result<(), Fail> {
         }
         number = number.wrapping_add(1);
     }
-    let Some(set) = full_types(rt.alloc(), &files) else {
+    let Some(set) = full_types(rt.alloc(), files) else {
         println!(rt; "0 refused before")?;
         return Ok(());
     };

@@ -10,7 +10,7 @@ set -eu
 count=${1:-6000}
 . "$(dirname "$0")/programs.sh"
 
-program synthesis_bench 'class_synthesis midl_lex midl_names midl_parse midl_tree pinterface_id wr_base' <<'PROGRAM'
+program synthesis_bench 'class_synthesis midl_lex midl_names midl_parse midl_tree pinterface_id placed_items wr_base' <<'PROGRAM'
 //! The full types of a file: the least time of five runs, how many types came, and what the signature of the first takes.
 #![tactic(auto)]
 
@@ -19,13 +19,14 @@ use midl_lex::tokens;
 use midl_names::resolve;
 use midl_parse::parse;
 use midl_tree::File;
+use placed_items::Placed;
 use pinterface_id::signature;
 use std::alloc::Global;
 use std::env;
 use std::fs;
 use std::test::Fail;
 use std::time::Instant;
-use wr_base::{PlacedTypes, TypeUse};
+use wr_base::{PlacedTypes, Refusal, Stop, TypeUse};
 
 /// The file of these bytes, where they are one.
 fn parsed(alloc: Global, bytes: &[u8]) -> Option<File> {
@@ -55,23 +56,30 @@ fn first_signature(alloc: Global, set: &PlacedTypes) -> usize {
     }
 }
 
-fn main(rt: HostRuntime) -> Result<(), Fail> {
-    let mut files = Vec::new(rt.alloc());
-    for word in env::args(&rt)?.skip(1) {
-        let bytes = fs::read(&rt, word.as_str())?;
-        match parsed(rt.alloc(), &bytes) {
-            Some(file) => files.push(file)?,
-            None => println!(rt; "no file")?,
+/// What those of the sources declare that are files.
+fn declared(alloc: Global, sources: &[Vec<u8>]) -> Result<Placed, Stop<Refusal>> {
+    let mut files = Vec::new(alloc);
+    for bytes in sources {
+        if let Some(file) = parsed(alloc, bytes) {
+            files.push(file)?;
         }
     }
-    let Ok(placed) = resolve(rt.alloc(), &files) else {
-        println!(rt; "refused by names")?;
-        return Ok(());
-    };
+    resolve(alloc, files)
+}
+
+fn main(rt: HostRuntime) -> Result<(), Fail> {
+    let mut sources = Vec::new(rt.alloc());
+    for word in env::args(&rt)?.skip(1) {
+        sources.push(fs::read(&rt, word.as_str())?)?;
+    }
     let mut least = u128::MAX;
     for _ in 0..5 {
+        let Ok(placed) = declared(rt.alloc(), &sources) else {
+            println!(rt; "refused by names")?;
+            return Ok(());
+        };
         let start = Instant::now(&rt)?;
-        let made = full(rt.alloc(), &placed);
+        let made = full(rt.alloc(), placed);
         let took = start.elapsed(&rt)?.as_micros();
         if took < least {
             least = took;

@@ -49,11 +49,11 @@ fn main(rt: HostRuntime) -> Result<(), Fail> {
             None => println!(rt; "no file")?,
         }
     }
-    let Ok(placed) = resolve(rt.alloc(), &files) else {
+    let Ok(placed) = resolve(rt.alloc(), files) else {
         println!(rt; "refused by names")?;
         return Ok(());
     };
-    let Ok(made) = full(rt.alloc(), &placed) else {
+    let Ok(made) = full(rt.alloc(), placed) else {
         println!(rt; "refused by synthesis")?;
         return Ok(());
     };

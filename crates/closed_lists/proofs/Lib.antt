@@ -1,3 +1,4 @@
 mod Examples
 pub mod Positions
 pub mod Meetings
+pub mod Moving

@@ -1,11 +1,6 @@
 -- Uses that are met, and what a list leads to.
 use Rattle.std.proofs.Common.{◌≡◌, ◌<◌, ◌≤◌, ◌+◌, ◌-◌, ℕ, zero, suc, Bool, true, false, cond, ◌||◌, List, [], ◌∷◌, ◌++◌, Some, ◌⊎◌, inl, inr, ⊎_elim, Contains, take, length, get_or, slice_get, refl, sym, ap, subst, ◌∙◌, arith, append_assoc, append-nil, not, true≢false, Result, Ok, Err, OnOk, IfOk}
-use Rattle.std.specs.List.{flat_map, AllZip}
-use Rattle.std.proofs.lemmas.List.Elements.{AllZip-push}
-use Rattle.std.proofs.lemmas.List.{length-map, map_push, get_or-map}
-use Rattle.wr_rules.specs.Sites.{Site}
-use Rattle.closed_lists.specs.Views.{site_view, sites_in}
-use Rattle.closed_lists.specs.declared.site.PlacedDeclaration.{PlacedDeclaration}
+use Rattle.std.specs.List.{flat_map}
 use Rattle.std.specs.Str.{bytes_eq}
 use Rattle.std.specs.Cmp.Lexicographic.{bytes_decides}
 use Rattle.std.proofs.lemmas.List.{take_more}
@@ -267,14 +262,3 @@ module _ (types : List Declaration) (list : List TypeUse) where
     texts = λ text. (λ e. r.sound text (r.agrees text ∙ e), λ c. sym (r.agrees text) ∙ all_there g next l r text c);
     written = r.written;
   }
-
--- ---- all of them
-
-pub zip_turn : (R : Site → Site → Type 0) (ps qs new : List PlacedDeclaration) (i : ℕ) (p q : PlacedDeclaration) → i < length ps → p ≡ get_or ps i p → new ≡ qs ++ q ∷ []
-    → AllZip R (take i (sites_in ps)) (sites_in qs) → R (site_view p) (site_view q) → AllZip R (take (i + 1) (sites_in ps)) (sites_in new)
-zip_turn R ps qs new i p q l e n z r =
-    let within : i < length (sites_in ps) = let m = length-map ps site_view in omega (arith, m, l) in
-    subst (λ (rs : List PlacedDeclaration). AllZip R (take (i + 1) (sites_in ps)) (sites_in rs)) (sym n)
-    (subst (λ (ss : List Site). AllZip R (take (i + 1) (sites_in ps)) ss) (sym (map_push site_view qs q))
-    (subst (λ (ss : List Site). AllZip R ss (sites_in qs ++ site_view q ∷ [])) (sym (take_more (sites_in ps) i (site_view p) within ∙ ap (λ (s : Site). take i (sites_in ps) ++ s ∷ []) (get_or-map site_view ps i p (site_view p) l ∙ ap site_view (sym e))))
-    (AllZip-push R (take i (sites_in ps)) (sites_in qs) (site_view p) (site_view q) z r)))

@@ -1,5 +1,5 @@
 -- Declarations with their lists closed.
-use Rattle.std.specs.Prelude.{◌≡◌, ◌↔◌, ℕ, IsTrue, List, Contains}
+use Rattle.std.specs.Prelude.{◌≡◌, ◌↔◌, ℕ, IsTrue, List, [], ◌∷◌, drop, Contains}
 use Rattle.wr_base.specs.declared.declaration.Declaration.{Declaration}
 use Rattle.wr_base.specs.declared.declaration.Declaration.TheVariants.{Enum, Struct, Delegate, Interface, Class}
 use Rattle.wr_base.specs.declared.type_use.TypeUse.{TypeUse}
@@ -29,3 +29,17 @@ Closes types open_ closed = (whole : List TypeUse) × IsClosure types (listed_in
 pub record IsClosing (types : List Declaration) (open_ : Site) (closed : Site) : Type 0 where
   pub decl : Closes types open_.decl closed.decl
   pub places : closed.places ≡ open_.places
+
+-- the list of a declaration at its place leads to these uses
+abbrev pub Leads : List Declaration → Site → List TypeUse → Type 0
+Leads types s whole = IsClosure types (listed_in s.decl) whole
+
+-- a declaration at its place with the first of these lists, if there is one
+abbrev pub next_site : Site → List (List TypeUse) → Site
+next_site s [] = s
+next_site s (whole ∷ wholes) = record { decl = with_list whole s.decl; places = s.places }
+
+-- declarations at their places, each with the list at its index
+abbrev pub with_lists : List Site → List (List TypeUse) → List Site
+with_lists [] wholes = []
+with_lists (s ∷ ss) wholes = next_site s wholes ∷ with_lists ss (drop 1 wholes)

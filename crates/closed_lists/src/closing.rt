@@ -1,21 +1,23 @@
 //! Lists with all that they lead to.
 
-ghost use Rattle.std.specs.Prelude.{◌≡◌, ◌∷◌, [], ◌++◌, ◌<◌, true, Some, None, ℕ, List, IfOk, OnOk, map, length, Contains};
+ghost use Rattle.std.specs.Prelude.{◌≡◌, ◌∷◌, [], ◌++◌, ◌<◌, true, Some, None, ℕ, List, IfOk, OnOk, map, length, drop, Contains};
 ghost use Rattle.std.specs.BTreeSet.{Updates, contains_text};
 ghost use Rattle.std.specs.String.{string_cmp};
 ghost use Rattle.std.specs.List.{AllZip};
+ghost use Rattle.std.specs.Vec.Iter.{into_iter_items};
 ghost use Rattle.wr_base.specs.Uses.{text_of};
 ghost use Rattle.wr_rules.specs.ListRules.{listed_in};
 ghost use Rattle.closed_lists.specs.Indexes.{names_in, Indexes};
 ghost use Rattle.closed_lists.specs.Views.{decls_in, site_view, sites_in};
 ghost use Rattle.closed_lists.specs.Closing.{has, Agrees, Meets, Follows};
-ghost use Rattle.closed_lists.specs.Closures.{IsClosure, Closes, IsClosing, with_list};
+ghost use Rattle.closed_lists.specs.Closures.{IsClosure, Leads, IsClosing, with_list, next_site, with_lists};
 
 use crate::index::{index_of, required};
 use crate::site::PlacedDeclaration;
 use sqlite_items::Items;
 use std::alloc::{AllocError, Global};
 use std::collections::{BTreeMap, BTreeSet};
+use std::vec::IntoIter;
 use wr_base::{Declaration, TypeUse, Uses};
 
 /// Uses, each text once, and their texts.
@@ -129,56 +131,72 @@ fn set_list(declaration: &mut Declaration, whole: Uses)
     }
 }
 
-// A copy of the declaration with another list.
-fn with_list(declaration: &Declaration, whole: Uses) -> Result<Declaration, AllocError>
-    ensures { IfOk result (λ d. d ≡ with_list whole declaration.now) }
-{
-    let mut copy = declaration.clone()?;
-    set_list(&mut copy, whole);
-    Ok(copy)
-}
-
-fn close_list(
+// What the list of a declaration leads to.
+fn closed_list(
     alloc: Global,
     sites: &[PlacedDeclaration],
     index: &BTreeMap<String, usize>,
     declaration: &Declaration,
-) -> Result<Declaration, AllocError>
+) -> Result<Uses, AllocError>
     requires { Indexes index.now (names_in sites.now) }
-    ensures { IfOk result (Closes (decls_in sites.now) declaration.now) }
+    ensures { IfOk result (λ whole. IsClosure (decls_in sites.now) (listed_in declaration.now) whole) }
 {
     let whole = closure(alloc, sites, index, list_of(declaration))?;
-    with_list(declaration, Items::from_vec(whole))
+    Ok(Items::from_vec(whole))
 }
 
-fn close(
-    alloc: Global,
-    sites: &[PlacedDeclaration],
-    index: &BTreeMap<String, usize>,
-    site: &PlacedDeclaration,
-) -> Result<PlacedDeclaration, AllocError>
-    requires { Indexes index.now (names_in sites.now) }
-    ensures { IfOk result (λ closed. IsClosing (decls_in sites.now) (site_view site.now) (site_view closed)) }
-{
-    let places = site.places.clone()?;
-    let declaration = close_list(alloc, sites, index, &site.declaration)?;
-    Ok(PlacedDeclaration {
-        declaration,
-        places,
-    })
-}
-
-/// The declarations, each with what its list leads to.
-pub fn close_all(
-    alloc: Global,
-    sites: &[PlacedDeclaration],
-) -> Result<Vec<PlacedDeclaration>, AllocError>
-    ensures { IfOk result (λ closed. AllZip (IsClosing (decls_in sites.now)) (sites_in sites.now) (sites_in closed.items)) }
+// What the list of each declaration leads to.
+#[tactic(auto, using(crate::proofs::Moving::leads_turn))]
+fn closed_lists(alloc: Global, sites: &[PlacedDeclaration]) -> Result<Vec<Uses>, AllocError>
+    ensures { IfOk result (λ lists. AllZip (Leads (decls_in sites.now)) (sites_in sites.now) lists.items) }
 {
     let index = index_of(alloc, sites)?;
-    let mut closed = Vec::new(alloc);
+    let mut lists = Vec::with_capacity(alloc, sites.len())?;
     for site in sites {
-        closed.push(close(alloc, sites, &index, site)?)?;
+        lists.push(closed_list(alloc, sites, &index, &site.declaration)?)?;
+    }
+    Ok(lists)
+}
+
+// The declaration where it stands, with the next list, if there is one.
+fn close_next(site: PlacedDeclaration, lists: &mut IntoIter<Uses>) -> PlacedDeclaration
+    ensures site { site_view result ≡ next_site (site_view site) (into_iter_items lists.old) }
+    ensures rest { into_iter_items lists.new ≡ drop 1 (into_iter_items lists.old) }
+{
+    let mut site = site;
+    match lists.next() {
+        Some(whole) => {
+            set_list(&mut site.declaration, whole);
+            site
+        }
+        None => site,
+    }
+}
+
+// The declarations with these lists, none of them copied.
+fn with_lists(
+    alloc: Global,
+    sites: Vec<PlacedDeclaration>,
+    lists: Vec<Uses>,
+) -> Result<Vec<PlacedDeclaration>, AllocError>
+    ensures { IfOk result (λ closed. sites_in closed.items ≡ with_lists (sites_in sites.items) lists.items) }
+{
+    let mut closed = Vec::with_capacity(alloc, sites.len())?;
+    let mut lists = lists.into_iter();
+    for site in sites {
+        closed.push(close_next(site, &mut lists))?;
     }
     Ok(closed)
+}
+
+/// The declarations, each with what its list leads to. None of them is copied.
+#[tactic(auto, using(crate::proofs::Moving::all_closing))]
+pub fn close_all(
+    alloc: Global,
+    sites: Vec<PlacedDeclaration>,
+) -> Result<Vec<PlacedDeclaration>, AllocError>
+    ensures { IfOk result (λ closed. AllZip (IsClosing (decls_in sites.items)) (sites_in sites.items) (sites_in closed.items)) }
+{
+    let lists = closed_lists(alloc, &sites)?;
+    with_lists(alloc, sites, lists)
 }

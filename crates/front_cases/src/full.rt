@@ -9,7 +9,7 @@ use wr_base::PlacedTypes;
 
 /// The full types of files.
 pub fn types_of(alloc: Global, case: &str) -> Answer<PlacedTypes> {
-    full(alloc, &declared_by(alloc, case)?)
+    full(alloc, declared_by(alloc, case)?)
 }
 
 /// The types, or the refusal.

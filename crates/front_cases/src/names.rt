@@ -38,7 +38,7 @@ pub fn declared_by(alloc: Global, case: &str) -> Answer<Placed>
     if !case.is_empty() {
         push_files(&mut files, alloc, case)?;
     }
-    resolve(alloc, &files)
+    resolve(alloc, files)
 }
 
 /// The items, or the refusal.

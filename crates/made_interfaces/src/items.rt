@@ -2,13 +2,13 @@
 
 ghost use Rattle.std.specs.Prelude.{◌≡◌, ◌++◌, IfOk, OnOk};
 ghost use Rattle.closed_lists.specs.Views.{site_view, sites_in};
-ghost use Rattle.made_interfaces.specs.Made.{id_or_named, with_id, done_site, class_sites, item_sites, raw};
+ghost use Rattle.made_interfaces.specs.Made.{id_or_named, with_id, class_sites, item_sites, raw};
 
 use crate::class::class_site;
 use crate::interfaces::push_made;
 use closed_lists::PlacedDeclaration;
 use pinterface_id::named_id;
-use placed_items::{PlacedItem, Written, WrittenClass};
+use placed_items::{Placed, PlacedItem, Written, WrittenClass};
 use std::alloc::{AllocError, Global};
 use wr_base::{DeclPlaces, Declaration, FullName};
 
@@ -35,24 +35,22 @@ fn set_id(declaration: &mut Declaration, written: Option<u128>)
 }
 
 // With the id of its name where none is written.
-fn with_id(written: Option<u128>, declaration: &Declaration) -> Result<Declaration, AllocError>
-    ensures { IfOk result (λ done. done ≡ with_id written declaration.now) }
+fn with_id(written: Option<u128>, declaration: Declaration) -> Declaration
+    ensures { result ≡ with_id written declaration }
 {
-    let mut copy = declaration.clone()?;
-    set_id(&mut copy, written);
-    Ok(copy)
+    let mut declaration = declaration;
+    set_id(&mut declaration, written);
+    declaration
 }
 
 // A declaration that isn't a class, where it stands.
-fn done_site(item: &PlacedItem, declaration: &Declaration) -> Result<PlacedDeclaration, AllocError>
-    ensures { IfOk result (λ site. site_view site ≡ done_site item.now declaration.now) }
+fn done_site(id: Option<u128>, declaration: Declaration, places: DeclPlaces) -> PlacedDeclaration
+    ensures { site_view result ≡ record { decl = with_id id declaration; places = places } }
 {
-    let places = item.places.clone()?;
-    let declaration = with_id(item.id, declaration)?;
-    Ok(PlacedDeclaration {
-        declaration,
+    PlacedDeclaration {
+        declaration: with_id(id, declaration),
         places,
-    })
+    }
 }
 
 fn push_class(
@@ -70,25 +68,26 @@ fn push_class(
 fn push_item(
     alloc: Global,
     sites: &mut Vec<PlacedDeclaration>,
-    item: &PlacedItem,
+    item: PlacedItem,
 ) -> Result<(), AllocError>
-    ensures { OnOk result (sites_in sites.new.items ≡ sites_in sites.old.items ++ item_sites item.now) }
+    ensures { OnOk result (sites_in sites.new.items ≡ sites_in sites.old.items ++ item_sites item) }
 {
-    match &item.item {
+    let PlacedItem { item, id, places } = item;
+    match item {
         Written::Done(declaration) => {
-            sites.push(done_site(item, declaration)?)?;
+            sites.push(done_site(id, declaration, places))?;
             Ok(())
         }
-        Written::Class(class) => push_class(alloc, sites, class, &item.places),
+        Written::Class(class) => push_class(alloc, sites, &class, &places),
     }
 }
 
-/// The declarations of the items in their order, behind each class the interfaces that are made of it: its own, that of its statics, and its factory. Lists are as they are written.
-pub fn raw(alloc: Global, items: &[PlacedItem]) -> Result<Vec<PlacedDeclaration>, AllocError>
-    ensures { IfOk result (λ sites. sites_in sites.items ≡ raw items.now) }
+/// The declarations of the items in their order, behind each class the interfaces that are made of it: its own, that of its statics, and its factory. Lists are as they are written, and no declaration is copied.
+pub fn raw(alloc: Global, items: Placed) -> Result<Vec<PlacedDeclaration>, AllocError>
+    ensures { IfOk result (λ sites. sites_in sites.items ≡ raw items) }
 {
     let mut sites = Vec::new(alloc);
-    for item in items {
+    for item in items.into_vec() {
         push_item(alloc, &mut sites, item)?;
     }
     Ok(sites)

@@ -16,3 +16,4 @@ pub mod ApartLaws
 pub mod NamedLaws
 pub mod PathLaws
 pub mod PlaceCounts
+pub mod FileTurns

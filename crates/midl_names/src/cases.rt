@@ -35,7 +35,7 @@ pub(crate) fn cases_of(alloc: Global, nodes: &[CaseNode]) -> Result<Cases, Memor
     ensures value { IfOk result (λ cases. cases ≡ cases_from (pos 0) nodes.now) }
     ensures named { IfOk result (λ cases. All (λ c. IsName c.name) cases) }
 {
-    let mut cases = Vec::new(alloc);
+    let mut cases = Vec::with_capacity(alloc, nodes.len())?;
     let mut next: i128 = 0;
     for node in nodes {
         let value = value_or(&next, &node.value);

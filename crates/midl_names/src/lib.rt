@@ -9,6 +9,7 @@ mod cases;
 mod constructors;
 mod duplicates;
 mod faults;
+mod files;
 mod hit;
 mod index;
 mod items;

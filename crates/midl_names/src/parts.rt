@@ -149,7 +149,7 @@ fn part_names<'a>(alloc: Global, tree: &'a DeclNode) -> Result<Vec<&'a Ident>, M
 fn place_list(alloc: Global, file: u32, names: &[&Ident]) -> Result<PlaceList, Memory>
     ensures { IfOk result (λ places. places ≡ map (place_at file) (idents_of names.now)) }
 {
-    let mut places = Vec::new(alloc);
+    let mut places = Vec::with_capacity(alloc, names.len())?;
     for name in names {
         places.push(Place {
             file,

@@ -98,7 +98,7 @@ fn params_of(scope: &Scope, nodes: &[ParamNode]) -> Result<Params, Memory>
     ensures value { IfOk result (λ ps. ps ≡ map (param_of (get_by_text scope.now.index.now.sorts) (parts_of scope.now.item.now.space.items)) (map param_view nodes.now)) }
     ensures named { IfOk result (λ ps. All (λ (p : Param). IsName p.name) ps) }
 {
-    let mut params = Vec::new(scope.alloc);
+    let mut params = Vec::with_capacity(scope.alloc, nodes.len())?;
     for node in nodes {
         params.push(param_of(scope, node)?)?;
     }

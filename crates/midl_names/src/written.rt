@@ -8,7 +8,7 @@ ghost use Rattle.midl_names.specs.Declares.{members_on, members_in, constructors
 ghost use Rattle.midl_names.specs.Members.{members_of};
 ghost use Rattle.midl_names.specs.RawMembers.{IsRawMember};
 ghost use Rattle.midl_names.specs.Views.{item_of, parts_of};
-ghost use Rattle.placed_items.specs.Named.{HasNamedParams, IsNamedMember, IsNamedClass, IsNamedDeclaration, HasNamedParts, AreNamed};
+ghost use Rattle.placed_items.specs.Named.{HasNamedParams, IsNamedMember, IsNamedClass, IsNamedDeclaration, HasNamedParts, AreNamed, ArePathed};
 
 use crate::abi::name_methods;
 use crate::cases::cases_of;
@@ -244,8 +244,9 @@ fn placed_of(alloc: Global, index: &Index, item: &Scoped) -> Result<PlacedItem, 
 pub(crate) fn placed(alloc: Global, index: &Index, items: &[Scoped]) -> Result<Placed, Memory>
     ensures value { IfOk result (λ ps. ps ≡ map (placed_of (get_by_text index.now.sorts)) (map item_of items.now)) }
     ensures named { IfOk result AreNamed }
+    ensures pathed { IfOk result ArePathed }
 {
-    let mut placed = Vec::new(alloc);
+    let mut placed = Vec::with_capacity(alloc, items.len())?;
     for item in items {
         placed.push(placed_of(alloc, index, item)?)?;
     }

@@ -36,7 +36,7 @@ fn push_lists(out: &mut String, sites: &[PlacedDeclaration]) -> Result<(), Alloc
     Ok(())
 }
 
-fn closed_text(alloc: Global, sites: &[PlacedDeclaration]) -> Result<String, AllocError> {
+fn closed_text(alloc: Global, sites: Vec<PlacedDeclaration>) -> Result<String, AllocError> {
     let whole = close_all(alloc, sites)?;
     let mut out = String::new(alloc);
     push_lists(&mut out, &whole)?;
@@ -46,5 +46,5 @@ fn closed_text(alloc: Global, sites: &[PlacedDeclaration]) -> Result<String, All
 /// Each declaration with its closed list.
 pub fn closed(alloc: Global, list: Vec<Declaration>) -> Result<String, AllocError> {
     let sites = placed(alloc, list)?;
-    closed_text(alloc, &sites)
+    closed_text(alloc, sites)
 }

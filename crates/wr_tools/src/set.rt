@@ -65,8 +65,7 @@ fn image_of_placed(alloc: Global, placed: Placed) -> Result<Vec<u8>, Stop<Refusa
     ensures made { IfOk result (λ bytes. MadeOf placed bytes.items) }
     ensures refused { IfErr result (λ stop. RefusedOfTypes placed stop) }
 {
-    let full = full(alloc, &placed)?;
-    drop(placed);
+    let full = full(alloc, placed)?;
     image_of_types(alloc, &full)
 }
 
@@ -75,7 +74,6 @@ pub(crate) fn image_of_set(alloc: Global, files: Vec<File>) -> Result<Vec<u8>, S
     ensures made { IfOk result (λ bytes. Made (sources_of files.items) bytes.items) }
     ensures refused { IfErr result (λ stop. RefusedFirst (sources_of files.items) stop) }
 {
-    let placed = resolve(alloc, &files)?;
-    drop(files);
+    let placed = resolve(alloc, files)?;
     image_of_placed(alloc, placed)
 }

@@ -46,11 +46,11 @@ fn declared_by(alloc: Global, case: &str) -> Answer<Placed>
     if !case.is_empty() {
         push_files(&mut files, alloc, case)?;
     }
-    resolve(alloc, &files)
+    resolve(alloc, files)
 }
 
 fn types_of(alloc: Global, case: &str) -> Answer<PlacedTypes> {
-    full(alloc, &declared_by(alloc, case)?)
+    full(alloc, declared_by(alloc, case)?)
 }
 
 /// The image of the full types of files.

@@ -1,8 +1,0 @@
-use Rattle.std.proofs.Common.{take}
-use Rattle.std.specs.List.{AllZip}
-use Rattle.closed_lists.specs.Views.{decls_in, sites_in}
-use Rattle.closed_lists.specs.Closures.{IsClosing}
-use Rattle.closed_lists.proofs.closing.close_all.Given as goal
-
-abbrev pub invariant-loop-site : goal.invariant-loop-site
-invariant-loop-site l = AllZip (IsClosing (decls_in l.sites)) (take l.site-index (sites_in l.sites)) (sites_in l.closed.items)
