@@ -83,12 +83,17 @@ fn some_cases_of(
     Ok((Some(cases), rest))
 }
 
+// With no room behind the last case: a tree lives until all files are read.
 fn or_none(alloc: Global, cases: Option<Vec<CaseNode>>) -> Vec<CaseNode>
     ensures { result.items ≡ or_none (option_map (λ v. v.items) cases) }
 {
     match cases {
         None => Vec::new(alloc),
-        Some(cases) => cases,
+        Some(cases) => {
+            let mut cases = cases;
+            cases.shrink_to_fit();
+            cases
+        }
     }
 }
 

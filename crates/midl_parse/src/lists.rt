@@ -44,7 +44,7 @@ pub(crate) fn names_of(
     ensures { Gives (λ x. (x.0.items, x.1.now)) result (listed_at name_at tokens.now) }
 {
     let (first, rest) = take_name(tokens)?;
-    let mut names = Vec::new(alloc);
+    let mut names = Vec::with_capacity(alloc, 1)?;
     names.push(first)?;
     more_names(names, rest)
 }

@@ -40,7 +40,7 @@ fn path_of(alloc: Global, tokens: &[Terminal]) -> Result<(Vec<Ident>, &[Terminal
     ensures { Gives (λ x. (x.0.items, x.1.now)) result (path_at tokens.now) }
 {
     let (first, rest) = take_own_name(tokens)?;
-    let mut names = Vec::new(alloc);
+    let mut names = Vec::with_capacity(alloc, 1)?;
     names.push(first)?;
     more_dots(names, rest)
 }
