@@ -5,7 +5,7 @@ ghost use Rattle.interface_order.specs.Order.{number_of, placed_of};
 ghost use Rattle.md_schema.specs.declared.column.CodedIndex.TheVariants.{TypeDefOrRef};
 ghost use Rattle.md_schema.specs.declared.column.Column.TheVariants.{Coded};
 ghost use Rattle.winmd_lines.specs.Orders.{sort_by};
-ghost use Rattle.winmd_rows.specs.Entries.{index_of};
+ghost use Rattle.winmd_rows.specs.Indices.{index_of};
 ghost use Rattle.winmd_sets.specs.Rows.{interfaces_in_order};
 ghost use Rattle.wr_base.specs.Trees.{tree_of};
 

@@ -12,7 +12,7 @@ ghost use Rattle.sig_blobs.specs.Writing.{field_bytes};
 ghost use Rattle.winmd_lines.specs.Lines.{line, Number, Last, Bytes};
 ghost use Rattle.winmd_lines.specs.Makers as makers;
 ghost use Rattle.winmd_lines.specs.Names.{token_of};
-ghost use Rattle.winmd_rows.specs.Types.{bits_of_int};
+ghost use Rattle.winmd_rows.specs.Bits.{bits_of_int};
 ghost use Rattle.winmd_sets.specs.Declared.{body_lines, lines_of};
 ghost use Rattle.winmd_sets.specs.Members.{attribute, case_lines, element, field_line, when};
 ghost use Rattle.wr_base.specs.Trees as trees;

@@ -7,7 +7,7 @@ use Rattle.md_schema.specs.declared.faults.ImageKind.TheVariants.{BadShape, Past
 use Rattle.md_schema.specs.declared.table.Table.TheVariants as tables
 use Rattle.winmd_rows.specs.Faults.{Fault, fault, ◌>>=◌, each, somes, the_one, checked}
 use Rattle.winmd_rows.specs.Values.{Value}
-use Rattle.winmd_lines.specs.Cells.{Numbered, Tables, at, cell, number_in, bytes_in, has_bit, is_null, rows_of_owner, list_of, identifier_of, name_in, path_of, full_name_in, all_rows, none_of}
+use Rattle.winmd_lines.specs.Cells.{Numbered, Tables, at, cell, number_in, bytes_in, has_flag, is_null, rows_of_owner, list_of, identifier_of, name_in, path_of, full_name_in, all_rows, none_of}
 use Rattle.winmd_lines.specs.Orders.{set_by}
 use Rattle.winmd_sets.specs.Attributes.{Attribute, at_most_one, attributes_of, is_of, of_word, type_name_of, version_of, id_of, exclusive_to, value_at, words_of}
 use Rattle.winmd_sets.specs.Blobs as fields
@@ -15,13 +15,14 @@ use Rattle.winmd_sets.specs.Blobs.{property_of, method_of}
 use Rattle.winmd_sets.specs.Fields.{field_type, marked, of_mark, case_of, constant_of, holder_flags, enum_from, enum_of, struct_field, struct_of}
 use Rattle.winmd_sets.specs.Fits.{IsName, IsPart, OwnerFits}
 use Rattle.winmd_sets.specs.Methods.{signature_of, invoke_of, delegate_of}
-use Rattle.winmd_sets.specs.Interfaces.{Item, OfMethod, OfProperty, OfEvent, role_of, items_of, numbered_name, times, abi_or, abi_of, member_of, method_names, members_of, interfaces_of, uses_in, members_in, interface_from, interface_of}
+use Rattle.winmd_sets.specs.Interfaces.{Item, OfMethod, OfProperty, OfEvent, role_of, items_of, numbered_name, times, abi_or, abi_of, member_of, members_of, interfaces_of, uses_in, members_in, interface_from, interface_of}
+use Rattle.winmd_sets.specs.Members.{method_names}
 use Rattle.winmd_sets.specs.Classes.{with_default, Making, Direct, Through, making_by, making_of, is_direct, throughs, names_in_order, default_of, class_from, class_of}
 use Rattle.winmd_sets.specs.Types.{kind_of, numbered_type, read_type, base_at, named_type, flagged_type, type_of, parts_of, all_parts_of, all_begin, none_generic, set_of, types_of}
 use Rattle.winmd_sets.specs.Uses.{use_in}
 use Rattle.wr_base.specs.declared.declaration.Case.{Case}
 use Rattle.wr_base.specs.Trees.{UseTree, text_of_tree, ParamTree, method, property, event, DeclTree, enum, struct, delegate, interface, class, name_of}
-use Rattle.winmd_rows.specs.Types.{int_of_bits}
+use Rattle.winmd_rows.specs.Bits.{int_of_bits}
 use Rattle.winmd_strict.specs.Reading.{RowsOf, TypesOf}
 use Rattle.read_sets.proofs.Read.{UseRead, OptionRead, SignatureRead, FieldRead, MemberRead, NamesRead, UsesRead, IsRead}
 use Rattle.read_sets.proofs.Steps.{bind, next, tested, each_so, Maybe, somes_so, either}
@@ -199,16 +200,16 @@ module _ (full : List ℕ) (named : IsName full) where
 
   class_read : (t : Tables) (n flags : ℕ) (attributes : List Attribute) → IfOk (class_of t n full flags attributes) IsRead
   class_read t n flags attributes =
-      next IsRead (version_of t n attributes) (λ version. interfaces_of t n >>= λ interfaces. default_of t n interfaces >>= λ default. class_from t full version (has_bit flags 0x80) default (uses_in interfaces) attributes)
-      (λ version. bind (AllByRecursion EntryRead) IsRead (interfaces_of t n) (λ interfaces. default_of t n interfaces >>= λ default. class_from t full version (has_bit flags 0x80) default (uses_in interfaces) attributes) (interfaces_read t n)
-      (λ interfaces h. bind OptionRead IsRead (default_of t n interfaces) (λ default. class_from t full version (has_bit flags 0x80) default (uses_in interfaces) attributes) (default_read t n interfaces h)
-      (λ default d. class_from_read t version (has_bit flags 0x80) default (uses_in interfaces) attributes d (uses_read interfaces h))))
+      next IsRead (version_of t n attributes) (λ version. interfaces_of t n >>= λ interfaces. default_of t n interfaces >>= λ default. class_from t full version (has_flag flags 0x80) default (uses_in interfaces) attributes)
+      (λ version. bind (AllByRecursion EntryRead) IsRead (interfaces_of t n) (λ interfaces. default_of t n interfaces >>= λ default. class_from t full version (has_flag flags 0x80) default (uses_in interfaces) attributes) (interfaces_read t n)
+      (λ interfaces h. bind OptionRead IsRead (default_of t n interfaces) (λ default. class_from t full version (has_flag flags 0x80) default (uses_in interfaces) attributes) (default_read t n interfaces h)
+      (λ default d. class_from_read t version (has_flag flags 0x80) default (uses_in interfaces) attributes d (uses_read interfaces h))))
 
   -- ---- a type
 
   kind_read : (t : Tables) (n flags : ℕ) (extends : Value) (base : List ℕ) (attributes : List Attribute) → IfOk (kind_of t n full flags extends base attributes) IsRead
   kind_read t n flags extends base attributes =
-      either IsRead (has_bit flags 0x20) (interface_of t n full attributes)
+      either IsRead (has_flag flags 0x20) (interface_of t n full attributes)
       (cond (is_null extends) (fault RowRange (at t tables.TypeDef n 3))
       (cond (bytes_eq base (codes "System.Enum")) (enum_of t n full attributes)
       (cond (bytes_eq base (codes "System.ValueType")) (struct_of t n full attributes)
@@ -263,8 +264,8 @@ flagged_read t row flags =
 
 type_read : (t : Tables) (row : Numbered) → IfOk (type_of t row) (Maybe NumberedRead)
 type_read t row =
-    next (Maybe NumberedRead) (number_in row.1 0) (λ flags. cond (has_bit flags 0x4000) (flagged_type t row flags) (Ok None))
-    (λ flags. either (Maybe NumberedRead) (has_bit flags 0x4000) (flagged_type t row flags) (Ok None) (flagged_read t row flags) tt)
+    next (Maybe NumberedRead) (number_in row.1 0) (λ flags. cond (has_flag flags 0x4000) (flagged_type t row flags) (Ok None))
+    (λ flags. either (Maybe NumberedRead) (has_flag flags 0x4000) (flagged_type t row flags) (Ok None) (flagged_read t row flags) tt)
 
 -- ---- the set
 

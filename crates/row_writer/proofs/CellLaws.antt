@@ -19,7 +19,7 @@ use Rattle.md_schema.specs.Codes.{target_of, is_table}
 use Rattle.md_schema.specs.Schema.{all_tables, place_of, choices_of, bits_of, columns_of}
 use Rattle.md_schema.proofs.CodesLemmas.{encoded}
 use Rattle.md_schema.proofs.TablesLemmas.{place_is}
-use Rattle.winmd_rows.specs.Entries as entries
+use Rattle.winmd_rows.specs.Indices as indices
 use Rattle.winmd_rows.specs.Values.{Value}
 use Rattle.winmd_rows.specs.Values as values
 use Rattle.row_writer.specs.declared.cell.Cell.{Cell}
@@ -62,14 +62,14 @@ code_says c table n None h e = absurd cc
 code_says c table n (Some tag) h e = (ap target e, ap (λ (o : Option (Table × ℕ)). is_some o) e)
 
 row_says : (texts blobs : Heap) (column : Column) (table : Table) (n : ℕ) → takes_rows table column ≡ true
-    → (value_at texts blobs column (entries.index_of column table n) ≡ values.To table n) × (cell_known texts blobs column (entries.index_of column table n) ≡ true)
+    → (value_at texts blobs column (indices.index_of column table n) ≡ values.To table n) × (cell_known texts blobs column (indices.index_of column table n) ≡ true)
 row_says texts blobs (Index other) table n h = (ap (λ (t : Table). values.To t n) (same_place other table h), refl)
 row_says texts blobs (Coded c) table n h = code_says c table n (position (is_table table) (choices_of c)) h (encoded (bits_of c) (choices_of c) table n (choices_low c))
 row_says texts blobs _ table n h = absurd cc
 
 -- the number of a cell that leads to a row says so
 pub row_case : (texts blobs : Heap) (column : Column) (before : Table → ℕ) (cell said : Cell) (table : Table) (n number : ℕ) → cell ≡ said → cell_fits column cell ≡ true
-    → cell_fits column said ≡ takes_rows table column → value_of before said ≡ values.To table n → number ≡ entries.index_of column table n
+    → cell_fits column said ≡ takes_rows table column → value_of before said ≡ values.To table n → number ≡ indices.index_of column table n
     → (value_at texts blobs column number ≡ value_of before cell) × (cell_known texts blobs column number ≡ true)
 row_case texts blobs column before cell said table n number is fits kind says e =
     let fit : takes_rows table column ≡ true = sym kind ∙ sym (ap (λ (x : Cell). cell_fits column x) is) ∙ fits in

@@ -1,12 +1,11 @@
 -- Lines, as a writer is given them: a table and what each cell of a row says, and the rows with a line more (ECMA-335 II.22).
-use Rattle.std.specs.Prelude.{ℕ, suc, ◌==◌, ◌&&◌, Bool, true, false, List, [], ◌∷◌, ◌++◌, length, map, nat_le, is_some, if◌then◌else◌}
+use Rattle.std.specs.Prelude.{ℕ, suc, ◌==◌, ◌&&◌, Bool, true, false, List, [], ◌∷◌, ◌++◌, length, map, nat_le, if◌then◌else◌}
 use Rattle.std.specs.List.{list_all}
 use Rattle.md_schema.specs.declared.table.Table.{Table}
 use Rattle.md_schema.specs.declared.column.Column.{Column}
 use Rattle.md_schema.specs.declared.column.Column.TheVariants.{One, Two, Four, Texts, Guids, Blobs, Index, Coded}
-use Rattle.md_schema.specs.declared.column.CodedIndex.{CodedIndex}
-use Rattle.md_schema.specs.Codes.{code_of}
-use Rattle.md_schema.specs.Schema.{place_of, choices_of, bits_of}
+use Rattle.md_schema.specs.Schema.{place_of}
+use Rattle.winmd_rows.specs.Indices.{names_table}
 use Rattle.winmd_rows.specs.Values.{Value}
 use Rattle.winmd_rows.specs.Values as values
 use Rattle.row_writer.specs.Known.{Values}
@@ -42,10 +41,6 @@ abbrev pub no_rows : Values
 no_rows table = []
 
 -- ---- which lines fit
-
--- a coded index may name the table
-abbrev pub names_table : CodedIndex → Table → Bool
-names_table c table = is_some (code_of (bits_of c) (choices_of c) table 0)
 
 -- which columns take numbers, texts, Guids and blobs, and rows of a table
 abbrev pub takes_numbers : Column → Bool

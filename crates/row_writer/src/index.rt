@@ -1,7 +1,7 @@
 //! Indices to rows.
 
 ghost use Rattle.std.specs.Prelude.{◌≡◌, IfOk};
-ghost use Rattle.winmd_rows.specs.Entries.{index_of};
+ghost use Rattle.winmd_rows.specs.Indices.{index_of};
 
 use md_schema::{Column, Table, encode};
 use ranked::Memory;

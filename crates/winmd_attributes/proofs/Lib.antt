@@ -1,4 +1,3 @@
 pub mod ValueLaws
-pub mod NamedLaws
 pub mod EachLaws
 pub mod ListLaws

@@ -4,7 +4,6 @@
 
 mod constructors;
 mod lists;
-mod named;
 mod types;
 mod values;
 mod words;

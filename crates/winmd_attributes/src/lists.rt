@@ -11,11 +11,11 @@ ghost use Rattle.winmd_lines.specs.Makers.{metadata};
 ghost use Rattle.winmd_sets.specs.Attributes as attributes_as;
 
 use crate::constructors::Attribute;
-use crate::named::is_named;
 use crate::words::{Word, type_of};
 use md_schema::{ImageFault, ImageKind};
 use ranked::{Memory, Stop};
 use std::alloc::Global;
+use winmd_cells::is_named;
 use winmd_source::{Source, refused};
 
 fn is_of(word: Word, attribute: &Attribute<'_>) -> bool

@@ -1,35 +1,20 @@
 //! The type that a cell names.
 
-ghost use Rattle.std.specs.Prelude.{◌≡◌, IfOk};
 ghost use Rattle.md_schema.specs.declared.table.Table.TheVariants as tables;
 ghost use Rattle.wr_base.specs.Trees.{tree_of};
 ghost use Rattle.winmd_blobs.specs.Named.{use_named};
 ghost use Rattle.winmd_cells.specs.Given.{Gives};
-ghost use Rattle.winmd_cells.specs.Names.{full_seen};
 ghost use Rattle.winmd_cells.specs.Seen.{seen, tables_in, value_seen};
 ghost use Rattle.winmd_rows.specs.Values.{To as to_value};
 ghost use Rattle.winmd_sets.specs.Uses as uses_as;
 
 use crate::signatures::spec_of;
 use md_schema::{ImageFault, Table};
-use ranked::{Memory, Stop};
+use ranked::Stop;
 use std::alloc::Global;
-use winmd_cells::{TypeName, Value};
+use winmd_cells::{Value, joined};
 use winmd_source::{Source, full_name};
 use wr_base::TypeUse;
-
-/// The bytes of a full name in two parts.
-fn joined(alloc: Global, name: TypeName<'_>) -> Result<Vec<u8>, Memory>
-    ensures { IfOk result (λ x. x.items ≡ full_seen name.entry) }
-{
-    let mut bytes = Vec::new(alloc);
-    if !name.space.is_empty() {
-        bytes.extend_from_slice(name.space)?;
-        bytes.push(b'.')?;
-    }
-    bytes.extend_from_slice(name.name)?;
-    Ok(bytes)
-}
 
 #[tactic(auto, using(wr_base::proofs::TreeLaws::tree_Reference))]
 fn use_of_name(alloc: Global, offset: u64, name: &[u8]) -> Result<TypeUse, Stop<ImageFault>>
@@ -48,7 +33,7 @@ fn use_named(
     ensures { Gives tree_of result (use_named (tables_in source.now.image) offset (value_seen value.entry)) }
 {
     let name = source.image.named_at(offset, value)?;
-    let bytes = joined(alloc, name)?;
+    let bytes = joined(alloc, &name)?;
     use_of_name(alloc, offset, bytes.as_slice())
 }
 

@@ -1,3 +1,4 @@
 pub mod CellLaws
 pub mod RowLaws
 pub mod SizeLaws
+pub mod NamedLaws

@@ -1,17 +1,13 @@
 -- The tables that an image's numbers and heaps are seen as.
-use Rattle.std.specs.Prelude.{ℕ, ◌+◌, ◌-◌, List, [], get_or, Option, Some, None, Ok, slice_get}
+use Rattle.std.specs.Prelude.{ℕ, ◌-◌, List, [], get_or, Option, Some, None, Ok, slice_get}
 use Rattle.md_schema.specs.declared.table.Table.{Table}
 use Rattle.md_schema.specs.declared.column.Column.{Column}
-use Rattle.md_schema.specs.Tables.{offset_of, raw}
-use Rattle.winmd_rows.specs.Values.{Value as CellValue, Heaps, Cell, Offsets, followed, follow, placed, Number as number_value, Text as text_value, Blob as blob_value, Guid as guid_value, To as to_value}
+use Rattle.md_schema.specs.Tables.{raw}
+use Rattle.winmd_rows.specs.Values.{Value as CellValue, Heaps, Cell, Offsets, offsets_of, followed, follow, placed, Number as number_value, Text as text_value, Blob as blob_value, Guid as guid_value, To as to_value}
 use Rattle.winmd_lines.specs.Cells.{Tables, Numbered}
 use Rattle.winmd_cells.specs.declared.image.Image.{Image}
 use Rattle.winmd_cells.specs.declared.cells.Value.{Value}
 use Rattle.winmd_cells.specs.declared.cells.Value.TheVariants as values
-
--- where the cells of a tables' stream stand that begins at an offset
-abbrev pub offsets_of : ℕ → List ℕ → Offsets
-offsets_of start stream table row column = start + offset_of stream table row column
 
 -- the rows of a tables' stream at an offset, with their indices followed into the heaps
 abbrev pub tables_of : ℕ → List ℕ → Heaps → Tables

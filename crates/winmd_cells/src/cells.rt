@@ -1,6 +1,6 @@
 //! What a cell says.
 
-ghost use Rattle.std.specs.Prelude.{◌≡◌, ◌-◌, slice_get, Some};
+ghost use Rattle.std.specs.Prelude.{◌≡◌, ◌-◌, ◌<◌, slice_get, Some};
 ghost use Rattle.md_schema.specs.Schema.{columns_of};
 ghost use Rattle.winmd_rows.specs.Values as values_as;
 ghost use Rattle.winmd_lines.specs.Cells as cells_as;
@@ -27,6 +27,14 @@ pub fn refused(kind: ImageKind, offset: u64) -> Stop<ImageFault>
     ensures { result ≡ Stop.Refused (record { kind = kind; offset = offset }) }
 {
     Stop::Refused(ImageFault { kind, offset })
+}
+
+/// Whether flags have this one.
+pub fn has_flag(flags: u32, flag: u32) -> bool
+    requires { 0 < flag }
+    ensures { result ≡ cells_as.has_flag flags flag }
+{
+    flags / flag % 2 == 1
 }
 
 pub(crate) fn column_of(table: Table, column: usize) -> Option<Column>

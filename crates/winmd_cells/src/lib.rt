@@ -7,14 +7,16 @@ mod image;
 mod indexes;
 mod lists;
 mod making;
+mod named;
 mod names;
 mod offsets;
 mod places;
 mod sizes;
 mod starts;
 
-pub use cells::Value;
+pub use cells::{Value, has_flag};
 pub use image::{Image, Places};
 pub use indexes::{index, owned};
 pub use making::places_of;
+pub use named::{is_named, joined};
 pub use names::{TypeName, identifier_of, path_of};

@@ -1,7 +1,7 @@
 -- Interfaces and classes by their parts.
 use Rattle.std.proofs.Common.{◌≡◌, ℕ, Bool, List, Option, codes, Result, Ok, Err, refl, sym, ◌∙◌}
 use Rattle.winmd_rows.specs.Faults.{Fault, ◌>>=◌, each}
-use Rattle.winmd_lines.specs.Cells.{Tables, has_bit}
+use Rattle.winmd_lines.specs.Cells.{Tables, has_flag}
 use Rattle.winmd_sets.specs.Attributes.{Attribute, of_word, type_name_of, version_of}
 use Rattle.winmd_sets.specs.Classes.{class_from, class_of, default_of, is_direct, making_of, throughs}
 use Rattle.winmd_sets.specs.Interfaces.{interface_from, interfaces_of, members_in, uses_in}
@@ -42,5 +42,5 @@ class_by_has t n full version fixed attributes =
     ∙ sym (has_then t n (λ has. ways_in t attributes >>= λ ways. Ok (class_with full version fixed has ways)))
 
 pub class_by_parts : (t : Tables) (n : ℕ) (full : List ℕ) (flags : ℕ) (attributes : List Attribute)
-    → class_of t n full flags attributes ≡ (version_of t n attributes >>= λ version. has_in t n >>= λ has. ways_in t attributes >>= λ ways. Ok (class_with full version (has_bit flags 0x80) has ways))
-class_by_parts t n full flags attributes = λ i. version_of t n attributes >>= λ version. class_by_has t n full version (has_bit flags 0x80) attributes i
+    → class_of t n full flags attributes ≡ (version_of t n attributes >>= λ version. has_in t n >>= λ has. ways_in t attributes >>= λ ways. Ok (class_with full version (has_flag flags 0x80) has ways))
+class_by_parts t n full flags attributes = λ i. version_of t n attributes >>= λ version. class_by_has t n full version (has_flag flags 0x80) attributes i

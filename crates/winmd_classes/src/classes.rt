@@ -17,14 +17,15 @@ use ranked::Stop;
 use sqlite_items::Items;
 use std::alloc::Global;
 use winmd_attributes::{Attribute, version_of};
+use winmd_cells::has_flag;
 use winmd_source::Source;
 use wr_base::{Declaration, FullName, Listed};
 
 /// Whether flag 0x80 is set (ECMA-335 II.23.1.15).
 fn is_fixed(flags: u32) -> bool
-    ensures { result ≡ cells_as.has_bit flags 0x80 }
+    ensures { result ≡ cells_as.has_flag flags 0x80 }
 {
-    flags / 0x80 % 2 == 1
+    has_flag(flags, 0x80)
 }
 
 /// The class that has these interfaces and is made in these ways.

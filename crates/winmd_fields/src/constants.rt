@@ -5,8 +5,9 @@ ghost use Rattle.md_schema.specs.declared.table.Table.TheVariants as tables;
 ghost use Rattle.winmd_cells.specs.Given.{Gives};
 ghost use Rattle.winmd_cells.specs.Seen.{seen, tables_in};
 ghost use Rattle.winmd_rows.specs.Faults.{each};
-ghost use Rattle.winmd_rows.specs.Types.{int_of_bits};
+ghost use Rattle.winmd_rows.specs.Bits.{int_of_bits};
 ghost use Rattle.winmd_sets.specs.Fields as fields_as;
+ghost use Rattle.winmd_sets.specs.Members as members_as;
 
 use md_bytes::number;
 use md_schema::{ImageFault, ImageKind, Table};
@@ -26,13 +27,13 @@ fn value_of(flags: bool, bits: u32) -> i128
 }
 
 fn element(flags: bool) -> u32
-    ensures { result ≡ fields_as.element flags }
+    ensures { result ≡ members_as.element flags }
 {
     if flags { 9 } else { 8 }
 }
 
 fn fits(flags: bool, kind: u32, blob: &[u8]) -> bool
-    ensures { result ≡ (kind == fields_as.element flags && length blob.now == 4) }
+    ensures { result ≡ (kind == members_as.element flags && length blob.now == 4) }
 {
     kind == element(flags) && blob.len() == 4
 }

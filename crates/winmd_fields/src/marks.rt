@@ -1,17 +1,17 @@
 //! The fields of an enum: cases by flag 0x40, and the others.
 
-ghost use Rattle.std.specs.Prelude.{◌≡◌, ◌<◌, IfOk, map};
+ghost use Rattle.std.specs.Prelude.{◌≡◌, IfOk, map};
 ghost use Rattle.md_schema.specs.declared.table.Table.TheVariants as tables;
 ghost use Rattle.winmd_cells.specs.Given.{Gives};
 ghost use Rattle.winmd_cells.specs.Seen.{seen, tables_in};
 ghost use Rattle.winmd_fields.specs.Seen.{mark_seen};
-ghost use Rattle.winmd_lines.specs.Cells as cells_as;
 ghost use Rattle.winmd_rows.specs.Faults.{each};
 ghost use Rattle.winmd_sets.specs.Fields as fields_as;
 
 use md_schema::{ImageFault, Table};
 use ranked::{Memory, Stop};
 use std::alloc::Global;
+use winmd_cells::has_flag;
 use winmd_source::Source;
 
 /// A field, and whether it is a case.
@@ -21,19 +21,12 @@ pub struct Mark {
     pub field: u32,
 }
 
-fn has_bit(n: u32, bit: u32) -> bool
-    requires { 0 < bit }
-    ensures { result ≡ cells_as.has_bit n bit }
-{
-    n / bit % 2 == 1
-}
-
 fn marked(source: &Source<'_>, field: u32) -> Result<Mark, Stop<ImageFault>>
     ensures { Gives (mark_seen source.now.image) result (fields_as.marked (seen source.now.image tables.Field field)) }
 {
     let flags = source.image.number(Table::Field, field, 0)?;
     Ok(Mark {
-        is_case: has_bit(flags, 0x40),
+        is_case: has_flag(flags, 0x40),
         field,
     })
 }

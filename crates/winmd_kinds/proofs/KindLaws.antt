@@ -4,7 +4,7 @@ use Rattle.md_schema.specs.declared.faults.ImageKind.TheVariants.{BadShape, RowR
 use Rattle.md_schema.specs.declared.table.Table.TheVariants as tables
 use Rattle.winmd_rows.specs.Faults.{Fault, fault, ◌>>=◌}
 use Rattle.winmd_rows.specs.Values.{Value}
-use Rattle.winmd_lines.specs.Cells.{Numbered, Tables, at, has_bit, is_null, path_of}
+use Rattle.winmd_lines.specs.Cells.{Numbered, Tables, at, has_flag, is_null, path_of}
 use Rattle.wr_base.specs.Trees.{DeclTree}
 use Rattle.winmd_sets.specs.Attributes.{Attribute, attributes_of}
 use Rattle.winmd_sets.specs.Fields.{enum_of, struct_of}
@@ -35,7 +35,7 @@ chosen t n full flags attributes false false false false false false = refl
 
 same_kind : (t : Tables) (n : ℕ) (full : List ℕ) (flags : ℕ) (extends : Value) (base : List ℕ) (attributes : List Attribute) → kind_of t n full flags extends base attributes ≡ of_kind (kind_by flags extends base) t n full flags attributes
 same_kind t n full flags extends base attributes =
-    chosen t n full flags attributes (has_bit flags 0x20) (is_null extends) (bytes_eq base (codes "System.Enum")) (bytes_eq base (codes "System.ValueType")) (bytes_eq base (codes "System.MulticastDelegate")) (bytes_eq base (codes "System.Object"))
+    chosen t n full flags attributes (has_flag flags 0x20) (is_null extends) (bytes_eq base (codes "System.Enum")) (bytes_eq base (codes "System.ValueType")) (bytes_eq base (codes "System.MulticastDelegate")) (bytes_eq base (codes "System.Object"))
 
 pub read_is : (t : Tables) (row : Numbered) (flags : ℕ) (full : List ℕ) (extends : Value) (base : List ℕ) → read_type t row flags full extends base ≡ read_by (kind_by flags extends base) t row.0 flags full
 read_is t row flags full extends base =

@@ -4,7 +4,7 @@ use Rattle.md_schema.specs.declared.faults.ImageKind.TheVariants.{BadShape, Nest
 use Rattle.md_schema.specs.declared.table.Table.TheVariants as tables
 use Rattle.winmd_rows.specs.Faults.{Fault, fault, ◌>>=◌}
 use Rattle.winmd_rows.specs.Values.{Value}
-use Rattle.winmd_lines.specs.Cells.{Numbered, Tables, at, full_name_in, has_bit, is_null, none_of, path_of, rows_of_owner}
+use Rattle.winmd_lines.specs.Cells.{Numbered, Tables, at, full_name_in, has_flag, is_null, none_of, path_of, rows_of_owner}
 use Rattle.wr_base.specs.Trees.{DeclTree}
 use Rattle.winmd_sets.specs.Attributes.{Attribute, attributes_of}
 use Rattle.winmd_sets.specs.Fields.{enum_of, struct_of}
@@ -28,7 +28,7 @@ kind_of_base base =
 
 -- an interface by flag 0x20
 abbrev pub kind_by : ℕ → Value → List ℕ → Kind
-kind_by flags extends base = if has_bit flags 0x20 then kinds.Interface else if is_null extends then kinds.Nothing else kind_of_base base
+kind_by flags extends base = if has_flag flags 0x20 then kinds.Interface else if is_null extends then kinds.Nothing else kind_of_base base
 
 -- ---- what a row declares
 

@@ -1,13 +1,12 @@
 //! Kinds of types.
 
-ghost use Rattle.std.specs.Prelude.{◌≡◌, ◌<◌};
+ghost use Rattle.std.specs.Prelude.{◌≡◌};
 ghost use Rattle.winmd_cells.specs.Names.{full_seen};
 ghost use Rattle.winmd_cells.specs.Seen.{value_seen};
 ghost use Rattle.winmd_kinds.specs.Kinds.{kind_by, kind_of_base};
 ghost use Rattle.winmd_lines.specs.Cells as cells_as;
 
-use crate::names::is_named;
-use winmd_cells::{TypeName, Value};
+use winmd_cells::{TypeName, Value, has_flag, is_named};
 
 /// Of which kind a type is: an interface by its flags, else by what it extends.
 #[derive(Clone, Copy)]
@@ -21,14 +20,6 @@ pub enum Kind {
     Nothing,
     /// It extends another type.
     Other,
-}
-
-/// Whether a number has this bit.
-pub(crate) fn has_bit(n: u32, bit: u32) -> bool
-    requires { 0 < bit }
-    ensures { result ≡ cells_as.has_bit n bit }
-{
-    n / bit % 2 == 1
 }
 
 /// Whether a cell leads nowhere.
@@ -61,7 +52,7 @@ fn kind_of_base(base: &TypeName<'_>) -> Kind
 pub(crate) fn kind_of(flags: u32, extends: Value<'_>, base: &TypeName<'_>) -> Kind
     ensures { result ≡ kind_by flags (value_seen extends.entry) (full_seen base.now) }
 {
-    if has_bit(flags, 0x20) {
+    if has_flag(flags, 0x20) {
         Kind::Interface
     } else if is_null(extends) {
         Kind::Nothing

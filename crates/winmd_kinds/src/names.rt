@@ -1,60 +1,15 @@
-//! Full names in two parts: compared with texts, and as one.
+//! Full names, as one.
 
-ghost use Rattle.std.specs.Prelude.{◌≡◌, ◌∷◌, ◌++◌, IfOk};
-ghost use Rattle.std.specs.Str.{bytes_eq};
 ghost use Rattle.winmd_cells.specs.Given.{Gives};
 ghost use Rattle.winmd_cells.specs.Names.{full_seen};
 ghost use Rattle.winmd_lines.specs.Cells as cells_as;
 
 use md_schema::ImageFault;
-use ranked::{Memory, Stop};
+use ranked::Stop;
 use std::alloc::Global;
-use winmd_cells::TypeName;
+use winmd_cells::{TypeName, joined};
 use winmd_source::full_name;
 use wr_base::FullName;
-
-/// Whether a text is a dot and a name.
-fn is_dotted(name: &[u8], text: &[u8]) -> bool
-    ensures { result ≡ bytes_eq (46 ∷ name.now) text.now }
-{
-    match text.split_first() {
-        None => false,
-        Some((dot, rest)) => *dot == b'.' && name == rest,
-    }
-}
-
-/// Whether a text is a namespace, a dot and a name.
-#[tactic(auto, using(crate::proofs::NameLaws::joined_apart, crate::proofs::NameLaws::joined_on))]
-fn is_joined(space: &[u8], name: &[u8], text: &[u8]) -> bool
-    ensures { result ≡ bytes_eq (space.now ++ 46 ∷ name.now) text.now }
-{
-    match text.strip_prefix(space) {
-        None => false,
-        Some(rest) => is_dotted(name, rest),
-    }
-}
-
-/// Whether a full name is this text.
-pub(crate) fn is_named(name: &TypeName<'_>, text: &[u8]) -> bool
-    ensures { result ≡ bytes_eq (full_seen name.now) text.now }
-{
-    match name.space {
-        [] => name.name == text,
-        [_, ..] => is_joined(name.space, name.name, text),
-    }
-}
-
-fn joined(alloc: Global, name: &TypeName<'_>) -> Result<Vec<u8>, Memory>
-    ensures { IfOk result (λ x. x.items ≡ full_seen name.now) }
-{
-    let mut bytes = Vec::new(alloc);
-    if !name.space.is_empty() {
-        bytes.extend_from_slice(name.space)?;
-        bytes.push(b'.')?;
-    }
-    bytes.extend_from_slice(name.name)?;
-    Ok(bytes)
-}
 
 /// A full name as one. Refused at an offset: BadShape where it is no path, PastLimit where it is too long.
 pub(crate) fn path_in(

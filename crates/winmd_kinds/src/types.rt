@@ -12,13 +12,13 @@ ghost use Rattle.winmd_set.specs.Stated.{set_tree, stated_seen};
 ghost use Rattle.winmd_sets.specs.Types as types_as;
 
 use crate::declarations::declaration_of;
-use crate::kinds::{Kind, has_bit, is_null, kind_of};
-use crate::names::{is_named, path_in};
+use crate::kinds::{Kind, is_null, kind_of};
+use crate::names::path_in;
 use md_schema::{ImageFault, ImageKind, Table};
 use ranked::Stop;
 use std::alloc::Global;
 use winmd_attributes::{Attribute, attributes_of};
-use winmd_cells::{TypeName, Value};
+use winmd_cells::{TypeName, Value, has_flag, is_named};
 use winmd_set::{Stated, parts_of};
 use winmd_source::{Source, refused};
 use wr_base::{Declaration, FullName};
@@ -189,7 +189,7 @@ pub fn type_of(
     ensures { Gives (option_map stated_seen) result (types_as.type_of (tables_in source.now.image) (seen source.now.image tables.TypeDef row)) }
 {
     let flags = source.image.number(Table::TypeDef, row, 0)?;
-    if has_bit(flags, 0x4000) {
+    if has_flag(flags, 0x4000) {
         flagged_type(alloc, source, row, flags)
     } else {
         Ok(None)

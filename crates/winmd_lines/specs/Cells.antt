@@ -55,8 +55,9 @@ bytes_in row column = cell row column >>= λ value. Ok (as_bytes value)
 abbrev pub row_in : Row → ℕ → Result ℕ Fault
 row_in row column = cell row column >>= λ value. Ok (as_row value)
 
-abbrev pub has_bit : ℕ → ℕ → Bool
-has_bit n bit = n / bit % 2 == 1
+-- flags have this one, which is a power of two
+abbrev pub has_flag : ℕ → ℕ → Bool
+has_flag flags flag = flags / flag % 2 == 1
 
 -- the cell leads into a table; to this row of it; nowhere
 abbrev pub leads_into : Table → Value → Bool

@@ -7,7 +7,7 @@ use Rattle.md_schema.specs.declared.table.Table.TheVariants as tables
 use Rattle.md_schema.specs.declared.column.CodedIndex.TheVariants as coded
 use Rattle.md_schema.specs.declared.column.Column.TheVariants.{Coded}
 use Rattle.md_schema.specs.Schema.{place_of}
-use Rattle.winmd_rows.specs.Entries.{index_of}
+use Rattle.winmd_rows.specs.Indices.{index_of}
 use Rattle.wr_base.specs.Parts.{before_last}
 use Rattle.winmd_rows.specs.Values as values
 use Rattle.winmd_rows.specs.Values.{Value}

@@ -8,7 +8,8 @@ use Rattle.ranked.specs.declared.stop.Stop.TheVariants.{Memory, Refused}
 use Rattle.winmd_rows.specs.Faults.{Fault, Faulty, ◌>>=◌}
 use Rattle.winmd_lines.specs.Cells.{Numbered, Tables, at, bytes_in, name_in}
 use Rattle.winmd_sets.specs.Blobs.{property_of}
-use Rattle.winmd_sets.specs.Interfaces.{Item, OfMethod, OfProperty, OfEvent, abi_of, member_of, members_of, method_names, numbered_name, times}
+use Rattle.winmd_sets.specs.Interfaces.{Item, OfMethod, OfProperty, OfEvent, abi_of, member_of, members_of, numbered_name, times}
+use Rattle.winmd_sets.specs.Members.{method_names}
 use Rattle.winmd_sets.specs.Methods.{signature_of}
 use Rattle.wr_base.specs.Trees.{MemberTree, member_tree, method, property}
 use Rattle.wr_base.specs.declared.declaration.Member.{Member}

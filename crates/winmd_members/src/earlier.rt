@@ -4,7 +4,8 @@ ghost use Rattle.std.specs.Prelude.{◌≡◌, ◌+◌, ◌++◌, ℕ, List, IfO
 ghost use Rattle.std.specs.Str.{bytes_eq};
 ghost use Rattle.sig_blobs.specs.Templates.{decimal_of};
 ghost use Rattle.winmd_members.specs.Earlier.{Counts, count_at};
-ghost use Rattle.winmd_sets.specs.Interfaces.{method_names, numbered_name};
+ghost use Rattle.winmd_sets.specs.Interfaces.{numbered_name};
+ghost use Rattle.winmd_sets.specs.Members.{method_names};
 ghost use Rattle.wr_base.specs.Trees.{member_tree};
 
 use ranked::Memory;

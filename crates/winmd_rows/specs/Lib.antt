@@ -1,7 +1,4 @@
 pub mod Faults
 pub mod Values
-pub mod Types
-pub mod Entries
-pub mod Written
-pub mod Fits
-pub mod Images
+pub mod Bits
+pub mod Indices

@@ -1,10 +1,11 @@
 -- Rows with their indices followed.
-use Rattle.std.specs.Prelude.{ℕ, suc, List, [], ◌∷◌, map, Option, Some, None, Result, Ok, Err}
+use Rattle.std.specs.Prelude.{ℕ, suc, ◌+◌, List, [], ◌∷◌, map, Option, Some, None, Result, Ok, Err}
 use Rattle.md_schema.specs.declared.table.Table.{Table}
 use Rattle.md_schema.specs.declared.column.Column.{Column}
 use Rattle.md_schema.specs.declared.column.Column.TheVariants.{One, Two, Four, Texts, Guids, Blobs, Index, Coded}
 use Rattle.md_schema.specs.Schema.{columns_of, choices_of, bits_of}
 use Rattle.md_schema.specs.Codes.{target_of}
+use Rattle.md_schema.specs.Tables.{offset_of}
 use Rattle.md_schema.specs.declared.faults.ImageFault.{ImageFault}
 use Rattle.md_schema.specs.declared.faults.ImageKind.{ImageKind}
 use Rattle.md_schema.specs.declared.faults.ImageKind.TheVariants.{BadTag}
@@ -72,6 +73,10 @@ Rows = Table → List (List Cell)
 -- where a cell stands in the image: table, row from 0, column
 abbrev pub Offsets : Type 0
 Offsets = Table → ℕ → ℕ → ℕ
+
+-- where the cells of a tables' stream stand that begins at an offset
+abbrev pub offsets_of : ℕ → List ℕ → Offsets
+offsets_of at stream table row column = at + offset_of stream table row column
 
 abbrev pub followed : Heaps → Offsets → (Table → List (List ℕ)) → Rows
 followed heaps offset rows table = followed_rows heaps (offset table) 0 (columns_of table) (rows table)

@@ -1,6 +1,2 @@
-//! What the rows of metadata mean: which rows a declaration is written as, and the bytes of the image that holds them.
+//! What the rows of metadata are made of, and what a reader finds who follows their cells (ECMA-335 II.22, II.24.2): definitions alone.
 #![tactic(auto)]
-
-mod names;
-
-pub use names::name_in_two_parts;

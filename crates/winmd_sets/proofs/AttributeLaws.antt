@@ -8,7 +8,7 @@ use Rattle.md_schema.specs.declared.table.Table.TheVariants as tables
 use Rattle.md_schema.specs.declared.column.CodedIndex.TheVariants as coded
 use Rattle.md_schema.specs.Schema.{place_of}
 use Rattle.md_schema.specs.declared.column.Column.TheVariants.{Coded}
-use Rattle.winmd_rows.specs.Entries.{index_of}
+use Rattle.winmd_rows.specs.Indices.{index_of}
 use Rattle.winmd_rows.specs.Values.{Value, Offsets, stated, stated_row}
 use Rattle.winmd_lines.specs.Lines.{Line}
 use Rattle.winmd_lines.specs.Makers.{Maker, Flags, Activatable, Factory, Default, ExclusiveTo, Guid, Overload, Static, Version, all_makers, maker_number, maker_type}

@@ -14,7 +14,7 @@ use Rattle.winmd_lines.specs.Makers.{Maker, metadata, maker_type, maker_signatur
 use Rattle.winmd_sets.specs.Members.{when, attribute}
 use Rattle.winmd_lines.specs.Names.{Names, Counts, none, behind, place, is_maker}
 use Rattle.winmd_lines.specs.Positions.{behind_all, NoneIn, Apart, AllOwned, owned}
-use Rattle.winmd_lines.specs.Cells.{Tables, at, has_bit}
+use Rattle.winmd_lines.specs.Cells.{Tables, at, has_flag}
 use Rattle.winmd_sets.specs.Attributes.{Attribute, attribute_of, attributes_of, is_of, of_word, at_most_one, type_name_of, version_of}
 use Rattle.winmd_sets.specs.Classes.{with_default, Making, Direct, Through, making_of, is_direct, throughs, names_in_order, class_of}
 use Rattle.winmd_sets.specs.Types.{type_of}
@@ -362,7 +362,7 @@ abbrev read_class : List ℕ → ℕ → Bool → Option UseTree → List UseTre
 read_class name version fixed default us direct fs ss = class name version fixed default (set_by text_of_tree us) direct (names_in_order fs) (names_in_order ss)
 
 class_read : (names : Names) (ds : List DeclTree) (offset : Offsets) (pre : List Line) (name : List ℕ) (version flags : ℕ) (fixed : Bool) (default : Option UseTree) (us : List UseTree) (direct : Bool) (fs ss : List (List ℕ)) (post : List Line) (ks : List ℕ)
-    → ClassOk (tables_of names ds offset) names name version default us direct fs ss → Stands_ names ds pre (class name version fixed default us direct fs ss) post → has_bit flags 0x80 ≡ fixed
+    → ClassOk (tables_of names ds offset) names name version default us direct fs ss → Stands_ names ds pre (class name version fixed default us direct fs ss) post → has_flag flags 0x80 ≡ fixed
     → class_of (tables_of names ds offset) (suc (behind_all none pre tables.TypeDef)) name flags (attributes (tables_of names ds offset) names (suc (behind_all none pre tables.TypeDef)) ks (all_said version direct fs ss))
     ≡ Ok (read_class name version fixed default us direct fs ss)
 class_read names ds offset pre name version flags fixed default us direct fs ss post ks h s f =

@@ -12,7 +12,7 @@ use Rattle.wr_base.specs.Paths.{is_identifier}
 use Rattle.wr_base.specs.declared.type_use.Base.TheVariants as bases
 use Rattle.wr_base.specs.declared.declaration.Case.{Case}
 use Rattle.winmd_rows.specs.Faults.{each}
-use Rattle.winmd_rows.specs.Types.{bits_of_int, int_of_bits}
+use Rattle.winmd_rows.specs.Bits.{bits_of_int, int_of_bits}
 use Rattle.winmd_rows.specs.Values.{Offsets, stated_row}
 use Rattle.winmd_lines.specs.Lines.{Number, Words, Bytes, Last, OfField, Line, line}
 use Rattle.winmd_sets.specs.Declared.{own_line, body_lines, version_of_type}

@@ -7,13 +7,13 @@ use Rattle.md_schema.specs.declared.table.Table.TheVariants as tables
 use Rattle.md_schema.specs.declared.column.CodedIndex.TheVariants as coded
 use Rattle.md_schema.specs.declared.faults.ImageFault.{ImageFault}
 use Rattle.md_schema.specs.declared.faults.ImageKind.{ImageKind}
-use Rattle.md_schema.specs.declared.faults.ImageKind.TheVariants.{BadTag, HeapRange, HeapText, PastLimit, RowRange, SigElement}
+use Rattle.md_schema.specs.declared.faults.ImageKind.TheVariants.{BadTag, HeapRange, HeapText, PastLimit, SigElement}
 use Rattle.md_schema.specs.Schema.{choices_of, bits_of}
 use Rattle.md_schema.specs.Codes.{target_of}
 use Rattle.sig_blobs.specs.Signatures as signatures
 use Rattle.sig_blobs.specs.Uses.{Meanings}
 use Rattle.wr_base.specs.Trees.{UseTree, plain, value, reference, instance, UseTrees, no_uses, use_and, SignatureTree}
-use Rattle.winmd_rows.specs.Faults.{Fault, Faulty, NotYet, fault, ◌>>=◌, checked}
+use Rattle.winmd_rows.specs.Faults.{Fault, Faulty, fault, ◌>>=◌, checked}
 use Rattle.wr_base.specs.Paths.{is_short_name}
 use Rattle.winmd_rows.specs.Values.{To}
 use Rattle.winmd_lines.specs.Cells.{Tables, named_at}
@@ -32,7 +32,6 @@ token_name t offset token = target_name t offset (target_of (bits_of coded.TypeD
 abbrev pub without_place : {A : Type 0} → Result A Fault → Result A ImageKind
 without_place (Ok x) = Ok x
 without_place (Err (Faulty e)) = Err e.kind
-without_place (Err (NotYet n)) = Err RowRange
 
 abbrev pub meanings : Tables → Meanings
 meanings t token = without_place (token_name t 0 token)

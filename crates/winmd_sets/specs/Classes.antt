@@ -5,7 +5,7 @@ use Rattle.md_schema.specs.declared.table.Table.TheVariants as tables
 use Rattle.md_schema.specs.declared.faults.ImageKind.TheVariants.{BadShape}
 use Rattle.winmd_rows.specs.Faults.{Fault, fault, ◌>>=◌, each, somes}
 use Rattle.winmd_sets.specs.Blobs.{method_of}
-use Rattle.winmd_lines.specs.Cells.{Tables, at, bytes_in, has_bit}
+use Rattle.winmd_lines.specs.Cells.{Tables, at, bytes_in, has_flag}
 use Rattle.winmd_lines.specs.Orders.{set_by}
 use Rattle.wr_base.specs.Trees.{UseTree, text_of_tree, ParamTree, DeclTree, class}
 use Rattle.winmd_sets.specs.Attributes.{Attribute, at_most_one, attributes_of, is_of, of_word, type_name_of, version_of}
@@ -61,4 +61,4 @@ class_of t n full flags attributes = do
   version ← version_of t n attributes
   interfaces ← interfaces_of t n
   default ← default_of t n interfaces
-  class_from t full version (has_bit flags 0x80) default (uses_in interfaces) attributes
+  class_from t full version (has_flag flags 0x80) default (uses_in interfaces) attributes

@@ -6,11 +6,12 @@ use Rattle.md_bytes.specs.Bytes.{number}
 use Rattle.wr_base.specs.declared.type_use.Base.TheVariants as bases
 use Rattle.wr_base.specs.declared.declaration.Case.{Case}
 use Rattle.winmd_rows.specs.Faults.{Fault, fault, ◌>>=◌, each, the_one, checked}
-use Rattle.winmd_rows.specs.Types.{int_of_bits}
+use Rattle.winmd_rows.specs.Bits.{int_of_bits}
 use Rattle.winmd_sets.specs.Blobs.{field_of}
-use Rattle.winmd_lines.specs.Cells.{Numbered, Tables, at, number_in, bytes_in, has_bit, rows_of_owner, list_of, name_in}
+use Rattle.winmd_lines.specs.Cells.{Numbered, Tables, at, number_in, bytes_in, has_flag, rows_of_owner, list_of, name_in}
 use Rattle.wr_base.specs.Trees.{UseTree, plain, FieldTree, DeclTree, enum, struct}
 use Rattle.winmd_sets.specs.Attributes.{Attribute, version_of}
+use Rattle.winmd_sets.specs.Members.{element}
 
 -- ---- enums and structs
 
@@ -23,9 +24,6 @@ flags_of offset _ = fault BadShape offset
 abbrev pub field_type : Tables → Numbered → Result UseTree Fault
 field_type t field = bytes_in field.1 2 >>= λ blob. field_of t (at t tables.Field field.0 2) blob
 
-abbrev pub element : Bool → ℕ
-element flags = if flags then 9 else 8
-
 -- the constant of a field, of this type, in four bytes
 abbrev pub constant_of : Tables → Bool → ℕ → Result ℕ Fault
 constant_of t flags field = do
@@ -36,7 +34,7 @@ constant_of t flags field = do
 
 -- fields with flag 0x40 are cases, the others aren't
 abbrev pub is_case : Numbered → Result Bool Fault
-is_case field = number_in field.1 0 >>= λ flags. Ok (has_bit flags 0x40)
+is_case field = number_in field.1 0 >>= λ flags. Ok (has_flag flags 0x40)
 
 abbrev pub marked : Numbered → Result (Bool × Numbered) Fault
 marked field = is_case field >>= λ mark. Ok (mark, field)

@@ -12,6 +12,7 @@ use Rattle.winmd_lines.specs.Orders.{set_by}
 use Rattle.sig_blobs.specs.Templates.{decimal_of}
 use Rattle.wr_base.specs.Trees.{UseTree, text_of_tree, MemberTree, method, property, event, DeclTree, interface}
 use Rattle.winmd_sets.specs.Attributes.{Attribute, at_most_one, attributes_of, exclusive_to, id_of, of_word, value_at, version_of, words_of}
+use Rattle.winmd_sets.specs.Members.{method_names}
 use Rattle.winmd_sets.specs.Uses.{use_in}
 use Rattle.winmd_sets.specs.Methods.{signature_of}
 
@@ -104,10 +105,6 @@ member_of t earlier (OfEvent row) = do
   name ← name_in t tables.Event row 1
   kind ← use_in t tables.Event row 2
   Ok (event name kind)
-
-abbrev pub method_names : MemberTree → List (List ℕ)
-method_names (method name abi sig) = name ∷ []
-method_names _ = []
 
 abbrev pub members_of : Tables → List (List ℕ) → List Item → Result (List MemberTree) Fault
 members_of t earlier [] = Ok []

@@ -1,19 +1,14 @@
 -- Which lines fit the columns of their tables, and begin their lists where they stand.
-use Rattle.std.specs.Prelude.{ℕ, ◌==◌, ◌&&◌, ◌||◌, not, Bool, true, false, List, [], ◌∷◌, is_some}
+use Rattle.std.specs.Prelude.{ℕ, ◌==◌, ◌&&◌, ◌||◌, not, Bool, true, false, List, [], ◌∷◌}
 use Rattle.md_schema.specs.declared.table.Table.{Table}
 use Rattle.md_schema.specs.declared.table.Table.TheVariants as tables
 use Rattle.md_schema.specs.declared.column.Column.{Column}
 use Rattle.md_schema.specs.declared.column.Column.TheVariants.{One, Two, Four, Texts, Guids, Blobs, Index, Coded}
-use Rattle.md_schema.specs.declared.column.CodedIndex.{CodedIndex}
-use Rattle.md_schema.specs.Codes.{code_of}
-use Rattle.md_schema.specs.Schema.{place_of, choices_of, bits_of, columns_of}
+use Rattle.md_schema.specs.Schema.{place_of, columns_of}
+use Rattle.winmd_rows.specs.Indices.{names_table}
 use Rattle.winmd_lines.specs.Lines.{Drawn, Number, Words, Bytes, Guid, To, Last, Next, Type_, MadeBy, OfField, OfProperty, OfMethod, OfSpec, Line}
 use Rattle.winmd_lines.specs.Names.{is_in}
 use Rattle.winmd_lines.specs.Positions.{cell_of}
-
--- a coded index may name the table
-abbrev pub names_table : CodedIndex → Table → Bool
-names_table c table = is_some (code_of (bits_of c) (choices_of c) table 0)
 
 abbrev pub drawn_fits : Column → Drawn → Bool
 drawn_fits One (Number n) = true

@@ -6,7 +6,7 @@ use Rattle.md_bytes.specs.Bytes.{le}
 use Rattle.md_schema.specs.declared.table.Table.{Table}
 use Rattle.md_schema.specs.declared.table.Table.TheVariants as tables
 use Rattle.wr_base.specs.declared.declaration.Case.{Case}
-use Rattle.winmd_rows.specs.Types.{bits_of_int}
+use Rattle.winmd_rows.specs.Bits.{bits_of_int}
 use Rattle.winmd_lines.specs.Lines.{Drawn, Number, Words, Bytes, Last, Next, Type_, MadeBy, OfField, OfProperty, OfMethod, Line, line}
 use Rattle.winmd_lines.specs.Makers.{Maker}
 use Rattle.wr_base.specs.Trees.{UseTree, value, ParamTree, SignatureTree, FieldTree, MemberTree, method, property, event}
@@ -95,6 +95,7 @@ member_lines earlier (event name type_) =
     ∷ accessor tables.Event 8 (codes "add_" ++ name) (adder type_)
     ++ accessor tables.Event 0x10 (codes "remove_" ++ name) remover
 
+-- the name that a method takes; properties and events take none
 abbrev pub method_names : MemberTree → List (List ℕ)
 method_names (method name abi sig) = name ∷ []
 method_names _ = []

@@ -6,7 +6,7 @@ use Rattle.md_schema.specs.declared.table.Table.TheVariants as tables
 use Rattle.md_schema.specs.declared.faults.ImageKind.TheVariants.{RowRange, BadShape, GenericDefinition, Nested, PastLimit}
 use Rattle.winmd_rows.specs.Faults.{Fault, fault, ◌>>=◌, each, somes, checked}
 use Rattle.winmd_rows.specs.Values.{Value}
-use Rattle.winmd_lines.specs.Cells.{Numbered, Tables, at, cell, number_in, bytes_in, row_in, has_bit, leads_into, is_null, passes, all_rows, rows_of_owner, list_from, none_of, path_of, full_name_in, named_at}
+use Rattle.winmd_lines.specs.Cells.{Numbered, Tables, at, cell, number_in, bytes_in, row_in, has_flag, leads_into, is_null, passes, all_rows, rows_of_owner, list_from, none_of, path_of, full_name_in, named_at}
 use Rattle.winmd_lines.specs.Orders.{set_by}
 use Rattle.wr_base.specs.Trees.{MemberTree, method, DeclTree, enum, struct, delegate, interface, class, name_of}
 use Rattle.winmd_sets.specs.Attributes.{Attribute, attributes_of}
@@ -20,7 +20,7 @@ use Rattle.winmd_sets.specs.Classes.{class_of}
 -- A type is an interface by flag 0x20, else its kind is that of the name which it extends.
 abbrev pub kind_of : Tables → ℕ → List ℕ → ℕ → Value → List ℕ → List Attribute → Result DeclTree Fault
 kind_of t n full flags extends base attributes =
-    if has_bit flags 0x20 then interface_of t n full attributes
+    if has_flag flags 0x20 then interface_of t n full attributes
     else if is_null extends then fault RowRange (at t tables.TypeDef n 3)
     else if bytes_eq base (codes "System.Enum") then enum_of t n full attributes
     else if bytes_eq base (codes "System.ValueType") then struct_of t n full attributes
@@ -78,7 +78,7 @@ flagged_type t row flags = bytes_in row.1 1 >>= λ name. if bytes_eq name (codes
 
 -- types without flag 0x4000 are passed over
 abbrev pub type_of : Tables → Numbered → Result (Option (ℕ × DeclTree)) Fault
-type_of t row = number_in row.1 0 >>= λ flags. if has_bit flags 0x4000 then flagged_type t row flags else Ok None
+type_of t row = number_in row.1 0 >>= λ flags. if has_flag flags 0x4000 then flagged_type t row flags else Ok None
 
 -- ---- the set
 

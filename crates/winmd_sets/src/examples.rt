@@ -4,21 +4,17 @@ ghost use Rattle.std.specs.Prelude.{◌≡◌, ℕ, suc, List, [], ◌∷◌, �
 ghost use Rattle.md_schema.specs.declared.table.Table.TheVariants as tables;
 ghost use Rattle.md_schema.specs.declared.faults.ImageKind.TheVariants as kinds;
 ghost use Rattle.winmd_rows.specs.Faults.{fault};
-ghost use Rattle.winmd_rows.specs.Images.{parts_with, entries_for};
-ghost use Rattle.winmd_image.specs.Spelled.{image_bytes};
 ghost use Rattle.winmd_rows.specs.Values.{Value, stated, stated_row};
 ghost use Rattle.wr_base.specs.Trees.{enum, struct};
 ghost use Rattle.winmd_sets.specs.Fits.{Fits};
 ghost use Rattle.winmd_sets.specs.Rows.{rows_of};
 ghost use Rattle.winmd_sets.specs.Types.{types_of, set_of};
-ghost use Rattle.winmd_sets.specs.Shop.{shop, shop_image};
-ghost use Rattle.winmd_sets.specs.Mix.{mix, mix_image};
+ghost use Rattle.winmd_sets.specs.Shop.{shop};
+ghost use Rattle.winmd_sets.specs.Mix.{mix};
 ghost use Rattle.winmd_sets.specs.Examples.{point, size, system_enum, places, reading, with_rows, also, changed, point_fields, marked_by_own, split_name};
 
-/// The images of two sets that fit, as another program wrote them, are what the rows of these sets come to; the rows state the sets.
+/// Two sets fit, and their rows state them.
 pub fn examples_are_as_defined()
-    ensures shop_written { image_bytes (parts_with (entries_for (rows_of shop)) (rows_of shop)) ≡ shop_image }
-    ensures mix_written { image_bytes (parts_with (entries_for (rows_of mix)) (rows_of mix)) ≡ mix_image }
     ensures shop_fits { Fits shop }
     ensures mix_fits { Fits mix }
     ensures shop_read { reading (stated (rows_of shop)) ≡ Ok shop }

@@ -18,7 +18,8 @@ use Rattle.winmd_lines.specs.Orders.{insert_by, sort_by}
 use Rattle.winmd_sets.specs.Rows.{in_order}
 use Rattle.wr_base.specs.Trees.{UseTree, plain, value, reference, instance}
 use Rattle.winmd_lines.proofs.LineLaws.{either, same_place}
-use Rattle.winmd_sets.specs.LineShapes.{names_table, drawn_fits, cells_fit, line_fits}
+use Rattle.winmd_rows.specs.Indices.{names_table}
+use Rattle.winmd_sets.specs.LineShapes.{drawn_fits, cells_fit, line_fits}
 use Rattle.winmd_strict.specs.Shapes.{value_fits, values_fit}
 
 some_row : (bits n : ℕ) (p : Option ℕ) → is_some (option_map (λ tag. 0 * 2 ^ bits + tag) p) ≡ true → is_some (option_map (λ tag. n * 2 ^ bits + tag) p) ≡ true

@@ -18,7 +18,8 @@ use Rattle.winmd_sets.proofs.ReachLaws.{rows_state}
 use Rattle.winmd_sets.specs.Fits.{Fits}
 use Rattle.winmd_image.specs.Parts.{Parts}
 use Rattle.winmd_sets.specs.LineShapes.{line_ok, line_fits, begins_list}
-use Rattle.winmd_strict.specs.Reading.{offsets, RowsOf, TypesOf}
+use Rattle.winmd_rows.specs.Values.{offsets_of}
+use Rattle.winmd_strict.specs.Reading.{RowsOf, TypesOf}
 use Rattle.winmd_strict.specs.Strict.{Strict}
 use Rattle.winmd_rows.specs.Faults.{Fault, ◌>>=◌}
 use Rattle.winmd_sets.specs.Types.{types_of}
@@ -64,7 +65,7 @@ strict_rows bytes s =
     let lines : List Line = all_lines names (map (arranged names) s.declared) in
     let good : list_all line_ok lines ≡ true = fit_all names (map (arranged names) s.declared) in
     let parts : Parts = parts_with s.heaps.texts.bytes s.heaps.blobs.bytes (numbers_of s.heaps (rows_of s.declared)) in
-    (offsets (584 + 116) parts.tables, ap RowsOf s.spelled ∙ placed_rows s.heaps (rows_of s.declared) (rows_fit s.heaps names lines good) s.holds s.columns (ordered s.heaps names lines good) s.small)
+    (offsets_of (584 + 116) parts.tables, ap RowsOf s.spelled ∙ placed_rows s.heaps (rows_of s.declared) (rows_fit s.heaps names lines good) s.holds s.columns (ordered s.heaps names lines good) s.small)
 
 -- A strict image states the set that was declared.
 pub strict_states : (bytes : List ℕ) (s : Strict bytes) → Fits s.declared → TypesOf bytes ≡ Ok s.declared

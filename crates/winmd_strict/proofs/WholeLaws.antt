@@ -26,7 +26,8 @@ use Rattle.winmd_rows.specs.Values as values
 use Rattle.winmd_image.specs.Parts.{Small}
 use Rattle.winmd_image.proofs.FoundLaws.{taken_apart}
 use Rattle.winmd_lines.specs.Cells.{Tables}
-use Rattle.winmd_strict.specs.Reading.{offsets, moved, rows_in, rows_of_slices, RowsOf}
+use Rattle.winmd_rows.specs.Values.{offsets_of}
+use Rattle.winmd_strict.specs.Reading.{moved, rows_in, rows_of_slices, RowsOf}
 use Rattle.winmd_strict.specs.Placed.{Heaped, Holds, heaps_in, numbers_of, parts_with, sizes_of_rows}
 use Rattle.winmd_strict.proofs.CellReads.{RowsFit, all_follow}
 
@@ -49,7 +50,7 @@ faultless sizes rows rest fit is ordered =
     ap (λ (o : Option ImageFault). or_else o (list_fault bytes)) (whole_rows bytes long known ends) ∙ no_list
 
 abbrev tables_in : List ℕ → values.Rows → ℕ → Result Tables Fault
-tables_in bytes rows at = Ok (record { rows = rows; offset = offsets at bytes })
+tables_in bytes rows at = Ok (record { rows = rows; offset = offsets_of at bytes })
 
 module _ (heaps : Heaped) (rows : Table → List (List Value)) where
   abbrev raws : Table → List (List ℕ)
@@ -62,20 +63,20 @@ module _ (heaps : Heaped) (rows : Table → List (List Value)) where
   parts = parts_with heaps.texts.bytes heaps.blobs.bytes raws
 
   stream_states : (at : ℕ) → RowsFit rows → Holds heaps rows → Fit sizes raws → disorder raws row_lists ≡ None
-      → rows_in at (padded (table_bytes sizes raws)) (heaps_in heaps) ≡ Ok (record { rows = stated rows; offset = offsets at (padded (table_bytes sizes raws)) })
+      → rows_in at (padded (table_bytes sizes raws)) (heaps_in heaps) ≡ Ok (record { rows = stated rows; offset = offsets_of at (padded (table_bytes sizes raws)) })
   stream_states at shaped holds fit ordered =
       let stream : List ℕ = table_bytes sizes raws in
       let rest : List ℕ = zeros (up (length stream) 4 - length stream) in
       let bytes : List ℕ = stream ++ rest in
       let whole : fault_of bytes ≡ None = faultless sizes raws rest fit refl ordered in
       let again : raw bytes ≡ raws = funext (raw bytes) raws (λ t. raw_again sizes raws rest t fit) in
-      let same : followed (heaps_in heaps) (offsets at bytes) (raw bytes) ≡ stated rows =
-      ap (λ (r : Table → List (List ℕ)). followed (heaps_in heaps) (offsets at bytes) r) again ∙ funext (followed (heaps_in heaps) (offsets at bytes) raws) (stated rows) (all_follow heaps (offsets at bytes) rows shaped holds) in
-      ap (λ (f : Option ImageFault). moved at f >>= λ whole. tables_in bytes (followed (heaps_in heaps) (offsets at bytes) (raw bytes)) at) whole
+      let same : followed (heaps_in heaps) (offsets_of at bytes) (raw bytes) ≡ stated rows =
+      ap (λ (r : Table → List (List ℕ)). followed (heaps_in heaps) (offsets_of at bytes) r) again ∙ funext (followed (heaps_in heaps) (offsets_of at bytes) raws) (stated rows) (all_follow heaps (offsets_of at bytes) rows shaped holds) in
+      ap (λ (f : Option ImageFault). moved at f >>= λ whole. tables_in bytes (followed (heaps_in heaps) (offsets_of at bytes) (raw bytes)) at) whole
       ∙ ap (λ (x : values.Rows). tables_in bytes x at) same
 
   -- the image of rows by placement has these rows
   pub placed_rows : RowsFit rows → Holds heaps rows → Fit sizes raws → disorder raws row_lists ≡ None → Small parts
-      → RowsOf (image_bytes parts) ≡ Ok (record { rows = stated rows; offset = offsets (584 + 116) parts.tables })
+      → RowsOf (image_bytes parts) ≡ Ok (record { rows = stated rows; offset = offsets_of (584 + 116) parts.tables })
   placed_rows shaped holds fit ordered small =
       ap rows_of_slices (taken_apart parts small) ∙ stream_states (584 + 116) shaped holds fit ordered

@@ -9,7 +9,7 @@ use Rattle.md_schema.specs.Schema.{columns_of}
 use Rattle.md_schema.specs.Written.{table_bytes}
 use Rattle.md_tables.specs.Numbers.{by_number, count_or}
 use Rattle.md_heaps.specs.Blobs.{blob_bytes}
-use Rattle.winmd_rows.specs.Entries.{index_of}
+use Rattle.winmd_rows.specs.Indices.{index_of}
 use Rattle.md_heaps.specs.Reading.{text_at}
 use Rattle.winmd_image.specs.Parts.{Parts, parts_of}
 use Rattle.md_bytes.specs.Padding.{padded}

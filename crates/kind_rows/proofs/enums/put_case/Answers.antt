@@ -4,7 +4,7 @@ use Rattle.md_schema.specs.declared.table.Table.TheVariants as tables
 use Rattle.row_writer.specs.Known.{Values}
 use Rattle.row_writer.specs.Seen.{seen}
 use Rattle.winmd_lines.specs.Lines.{line, Number, Last, Bytes}
-use Rattle.winmd_rows.specs.Types.{bits_of_int}
+use Rattle.winmd_rows.specs.Bits.{bits_of_int}
 use Rattle.winmd_sets.specs.Members.{element, field_line}
 use Rattle.part_rows.specs.Grown.{with_line}
 use Rattle.part_rows.specs.Nothing.{nothing}

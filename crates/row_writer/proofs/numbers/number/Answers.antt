@@ -1,6 +1,6 @@
 use Rattle.std.proofs.Common.{◌≡◌, ◌+◌, suc, refl, ◌∙◌, ap, arith}
 use Rattle.md_tables.specs.Rows.{rows_in}
-use Rattle.winmd_rows.specs.Entries.{index_of}
+use Rattle.winmd_rows.specs.Indices.{index_of}
 use Rattle.row_writer.specs.declared.cell.Cell.TheVariants as cells
 use Rattle.md_heaps.specs.Blobs.{blob_bytes}
 use Rattle.md_heaps.specs.Texts.{text_bytes}

@@ -1,6 +1,7 @@
 use Rattle.std.proofs.Common.{map, ◌++◌, []}
 use Rattle.std.proofs.lemmas.Result.{err_from_is_err_and}
-use Rattle.winmd_sets.specs.Interfaces.{members_of, method_names}
+use Rattle.winmd_sets.specs.Interfaces.{members_of}
+use Rattle.winmd_sets.specs.Members.{method_names}
 use Rattle.winmd_cells.specs.Seen.{tables_in}
 use Rattle.wr_base.specs.Trees.{member_tree}
 use Rattle.winmd_members.specs.Earlier.{count_at}

@@ -3,4 +3,4 @@ use Rattle.winmd_sets.proofs.Worked as examples
 use Rattle.winmd_sets.proofs.examples.examples_are_as_defined.Goals as goal
 
 pub returns : goal.returns
-returns c = record { shop_written = examples.shop_written; mix_written = examples.mix_written; shop_fits = shop_fits; mix_fits = mix_fits; shop_read = examples.shop_read; mix_read = examples.mix_read }
+returns c = record { shop_fits = shop_fits; mix_fits = mix_fits; shop_read = examples.shop_read; mix_read = examples.mix_read }
