@@ -8,7 +8,8 @@ use Rattle.ranked.specs.First.{IsFirst, Among, Only}
 use Rattle.wr_base.specs.declared.code.Code.TheVariants.{AccessorClash}
 use Rattle.wr_base.specs.declared.declaration.Member.{Member}
 use Rattle.wr_rules.specs.Sites.{broken_at}
-use Rattle.wr_rules.specs.Members.{lower, member_name, abi_names, Standing}
+use Rattle.wr_rules.specs.Members.{member_name, abi_names, Standing}
+use Rattle.wr_base.specs.Lower.{lower}
 use Rattle.wr_rules.specs.MemberRules.{has_name, same_lower, shares_abi, takes_abi, Pair, EachPaired}
 use Rattle.wr_rules.proofs.AbiLaws.{with_abi, with_both, named_so, AbiCounts, abi_by_counts}
 use Rattle.wr_rules.proofs.ClashLaws.{Holds, one_passes, any_passes}

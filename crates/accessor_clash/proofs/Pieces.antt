@@ -7,7 +7,8 @@ use Rattle.std.specs.Cmp.Lexicographic.{bytes_decides}
 use Rattle.std.proofs.lemmas.List.Sums.{sum_by-cons}
 use Rattle.wr_base.specs.declared.declaration.Member.{Member}
 use Rattle.wr_base.specs.declared.declaration.Member.TheVariants.{Method, Property, Event}
-use Rattle.wr_rules.specs.Members.{lower, member_name, abi_names}
+use Rattle.wr_rules.specs.Members.{member_name, abi_names}
+use Rattle.wr_base.specs.Lower.{lower}
 use Rattle.wr_rules.specs.MemberRules.{has_name, same_lower}
 use Rattle.member_counts.proofs.Turned.{turned}
 use Rattle.accessor_clash.specs.AbiCounts.{first_abi, second_abi, some_passes, is_lower, has_lower, is_own}

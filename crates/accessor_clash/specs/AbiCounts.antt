@@ -4,7 +4,8 @@ use Rattle.std.specs.List.{list_any}
 use Rattle.std.specs.Str.{bytes_eq}
 use Rattle.wr_base.specs.declared.declaration.Member.{Member}
 use Rattle.wr_base.specs.declared.declaration.Member.TheVariants.{Method, Property, Event}
-use Rattle.wr_rules.specs.Members.{lower, member_name, abi_names}
+use Rattle.wr_rules.specs.Members.{member_name, abi_names}
+use Rattle.wr_base.specs.Lower.{lower}
 use Rattle.member_counts.specs.Tallies.{count_at}
 use Rattle.accessor_clash.specs.declared.tallies.AbiMaps.{AbiMaps}
 

@@ -3,7 +3,7 @@
 ghost use Rattle.std.specs.Prelude.{◌≡◌, ◌&&◌, ◌++◌, ℕ, List, IfOk, IsSomeAnd, string_bytes};
 ghost use Rattle.std.specs.Option.{option_map};
 ghost use Rattle.std.specs.Str.{bytes_eq};
-ghost use Rattle.wr_rules.specs.Members.{lower};
+ghost use Rattle.wr_base.specs.Lower.{lower};
 ghost use Rattle.member_counts.specs.Tallies.{has_text};
 ghost use Rattle.accessor_clash.specs.AbiCounts.{first_abi, second_abi};
 
@@ -61,7 +61,7 @@ pub(crate) struct First;
 
 impl Counted for First {
     ghost use Rattle.std.specs.Str.{bytes_eq};
-    ghost use Rattle.wr_rules.specs.Members.{lower};
+    ghost use Rattle.wr_base.specs.Lower.{lower};
     ghost use Rattle.accessor_clash.specs.AbiCounts.{first_abi};
 
     ghost has = { λ _ m text. bytes_eq (lower (first_abi m.part)) text };
@@ -104,7 +104,8 @@ pub(crate) struct Own;
 impl Counted for Own {
     ghost use Rattle.std.specs.Prelude.{◌&&◌};
     ghost use Rattle.std.specs.Str.{bytes_eq};
-    ghost use Rattle.wr_rules.specs.Members.{lower, member_name};
+    ghost use Rattle.wr_rules.specs.Members.{member_name};
+    ghost use Rattle.wr_base.specs.Lower.{lower};
     ghost use Rattle.accessor_clash.specs.AbiCounts.{is_own};
 
     ghost has = { λ _ m text. is_own m.part && bytes_eq (lower (member_name m.part)) text };

@@ -2,7 +2,8 @@
 
 ghost use Rattle.std.specs.Prelude.{◌≡◌, ◌&&◌, ◌+◌, ℕ, List, IfOk, count_by, nat_lt};
 ghost use Rattle.std.specs.Str.{bytes_eq};
-ghost use Rattle.wr_rules.specs.Members.{lower, member_name, abi_names};
+ghost use Rattle.wr_rules.specs.Members.{member_name, abi_names};
+ghost use Rattle.wr_base.specs.Lower.{lower};
 ghost use Rattle.member_counts.specs.Tallies.{count_at};
 ghost use Rattle.accessor_clash.specs.AbiCounts.{abi_count, has_lower, is_own, is_shared};
 

@@ -5,7 +5,8 @@ use Rattle.std.proofs.lemmas.Bool.{cases_lt, lt-ltb, le-ltb}
 use Rattle.byteorder.specs.Endian.{big_bytes}
 use Rattle.byteorder.specs.Numbers.{big_from-append}
 use borrow.Author.Tests.{ltb-true}
-use Rattle.md_heaps.specs.Faults.{fault_at, BadLead}
+use Rattle.md_heaps.specs.Faults.{BadLead}
+use Rattle.md_schema.specs.Faults.{fault_at}
 use Rattle.md_heaps.specs.Integers.{compressed_of, in_bytes, shortest}
 use Rattle.md_heaps.specs.Blobs.{BlobHere, blob_bytes}
 use Rattle.md_heaps.proofs.HeapLaws.{stands_grows}

@@ -7,7 +7,8 @@ use Rattle.std.proofs.lemmas.List.{length-take, length-take-le, take_at, drop_at
 use Rattle.std.proofs.lemmas.Str.{IsUtf8-from_is_utf8, is_utf8-from_IsUtf8}
 use Rattle.byteorder.specs.Endian.{big_number}
 use Rattle.md_heaps.specs.Blobs.{BlobAt, BlobHere, blob_bytes}
-use Rattle.md_heaps.specs.Faults.{ImageFault, fault_at, past_heap, HeapText, BadLead, BadLength}
+use Rattle.md_heaps.specs.Faults.{ImageFault, past_heap, HeapText, BadLead, BadLength}
+use Rattle.md_schema.specs.Faults.{fault_at}
 use Rattle.md_heaps.specs.Heaps.{Heap, StandsAt, EachStands, index_of}
 use Rattle.md_heaps.specs.Integers.{compressed_of, in_bytes, shortest}
 use Rattle.md_heaps.specs.Reading.{until_zero, longer, ended, text_at, behind_length, found_at, blob_at}

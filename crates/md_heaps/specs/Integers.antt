@@ -1,7 +1,8 @@
 -- Compressed unsigned integers (ECMA-335 II.23.2): lead bits that say how many bytes there are, and then the value, the highest byte first.
 use Rattle.std.specs.Prelude.{◌≡◌, ℕ, ◌+◌, ◌-◌, ◌^◌, ◌<◌, ◌≤◌, ◌⊎◌, List, length, slice_index, Result, Ok, Err, nat_lt, if◌then◌else◌}
 use Rattle.byteorder.specs.Endian.{big_number, big_bytes}
-use Rattle.md_heaps.specs.Faults.{ImageFault, fault_at, BadLead, Short}
+use Rattle.md_heaps.specs.Faults.{ImageFault, BadLead, Short}
+use Rattle.md_schema.specs.Faults.{fault_at}
 
 -- the integer in so many bytes at the front, less its lead bits, unless the bytes end before
 abbrev pub in_bytes : ℕ → ℕ → List ℕ → Result (ℕ × ℕ) ImageFault

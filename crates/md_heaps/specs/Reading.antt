@@ -1,7 +1,8 @@
 -- What stands at an index of a heap (ECMA-335 II.24.2.3 to II.24.2.5). An index past its heap is a fault at 0; any other fault stands at the index.
 use Rattle.std.specs.Prelude.{ℕ, zero, suc, ◌+◌, ◌-◌, ◌*◌, List, [], ◌∷◌, length, take, drop, Option, Some, None, Result, Ok, Err, nat_lt, ◌&&◌, if◌then◌else◌}
 use Rattle.std.specs.Str.{is_utf8}
-use Rattle.md_heaps.specs.Faults.{ImageFault, fault_at, past_heap, HeapText, BadLength}
+use Rattle.md_heaps.specs.Faults.{ImageFault, past_heap, HeapText, BadLength}
+use Rattle.md_schema.specs.Faults.{fault_at}
 use Rattle.md_heaps.specs.Guids.{guid_number}
 use Rattle.md_heaps.specs.Integers.{compressed_of}
 

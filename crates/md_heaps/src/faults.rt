@@ -1,6 +1,6 @@
 //! The faults that the readers of heaps find.
 ghost use Rattle.std.specs.Prelude.{◌≡◌};
-ghost use Rattle.md_heaps.specs.Faults.{fault_at as fault_there};
+ghost use Rattle.md_schema.specs.Faults.{fault_at as fault_there};
 
 use md_schema::{ImageFault, ImageKind};
 

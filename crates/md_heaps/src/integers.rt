@@ -1,7 +1,7 @@
 //! Compressed unsigned integers (ECMA-335 II.23.2).
 ghost use Rattle.std.specs.Prelude.{◌≡◌, ◌+◌, ◌<◌, ◌≤◌, ◌^◌, ◌↔◌, ◌++◌, ℕ, List, length, take, IfOk, OnOk, OnErr, Ok, Err};
 ghost use Rattle.md_heaps.specs.Integers.{compressed_of, shortest, IsCut, HasBadLead, Spells};
-ghost use Rattle.md_heaps.specs.Faults.{fault_at as fault_there};
+ghost use Rattle.md_schema.specs.Faults.{fault_at as fault_there};
 
 use crate::faults::fault_at;
 use byteorder::{BigEndian, ByteOrder};

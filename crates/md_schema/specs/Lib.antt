@@ -5,3 +5,4 @@ pub mod Given
 pub mod Streams
 pub mod Tables
 pub mod Written
+pub mod Faults

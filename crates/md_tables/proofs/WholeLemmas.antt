@@ -24,7 +24,8 @@ use Rattle.md_schema.proofs.TablesLemmas.{raw_again, written_end}
 use Rattle.md_tables.specs.declared.lists.RowList.{RowList}
 use Rattle.md_tables.proofs.FirstLemmas.{none_from}
 use Rattle.md_tables.proofs.HeaderLemmas.{whole_rows}
-use Rattle.md_tables.specs.Faults.{first_from, is_unknown, has_unknown, header_fault, list_fault, fault_of, disorder, row_lists, or_else, fault, list_place}
+use Rattle.md_tables.specs.Faults.{first_from, is_unknown, has_unknown, header_fault, list_fault, fault_of, disorder, row_lists, or_else, list_place}
+use Rattle.md_schema.specs.Faults.{fault_at}
 use Rattle.md_tables.specs.Head.{head_bytes}
 use Rattle.md_tables.specs.Numbers.{Rows, by_number, is_known, count_or}
 
@@ -188,7 +189,7 @@ faultless sizes rows fit is ordered =
     let known : has_unknown (valid_of bytes) ≡ false = ap has_unknown valid ∙ ap (λ (o : Option ℕ). is_some o) none in
     let ends : rows_end bytes ≡ length bytes = subst (λ (x : List ℕ). rows_end x ≡ length bytes) (append-nil bytes) (written_end sizes rows [] fit) in
     let lists : disorder (raw bytes) row_lists ≡ None = ap (λ (r : Rows). disorder r row_lists) (funext (raw bytes) rows (written_rows sizes rows fit)) ∙ ordered in
-    let no_list : list_fault bytes ≡ None = ap (λ (d : Option (RowList × ℕ)). option_map (λ (found : RowList × ℕ). fault kinds.ListOrder (list_place (sizes_of bytes) (rows_from bytes) found.0 found.1)) d) lists in
+    let no_list : list_fault bytes ≡ None = ap (λ (d : Option (RowList × ℕ)). option_map (λ (found : RowList × ℕ). fault_at kinds.ListOrder (list_place (sizes_of bytes) (rows_from bytes) found.0 found.1)) d) lists in
     ap (λ (o : Option ImageFault). or_else o (list_fault bytes)) (whole_rows bytes long known (omega (arith, ends))) ∙ no_list
 
 -- ---- the parts of what is written
@@ -221,11 +222,11 @@ made_is bytes a b c rows ea eb ec er =
 -- ---- the list that is disordered, as it was found in the rows that were read
 
 pub list_is : (bytes : List ℕ) (sizes : Sizes) (from : ℕ) (rows : Rows) (found : Option ImageFault) → sizes ≡ sizes_of bytes → from ≡ rows_from bytes → ((t : Table) → rows t ≡ raw bytes t)
-    → found ≡ option_map (λ (d : RowList × ℕ). fault kinds.ListOrder (list_place sizes from d.0 d.1)) (disorder rows row_lists) → found ≡ list_fault bytes
+    → found ≡ option_map (λ (d : RowList × ℕ). fault_at kinds.ListOrder (list_place sizes from d.0 d.1)) (disorder rows row_lists) → found ≡ list_fault bytes
 list_is bytes sizes from rows found same begin h e =
-    e ∙ ap (λ (r : Rows). option_map (λ (d : RowList × ℕ). fault kinds.ListOrder (list_place sizes from d.0 d.1)) (disorder r row_lists)) (funext rows (raw bytes) h)
-    ∙ ap (λ (s : Sizes). option_map (λ (d : RowList × ℕ). fault kinds.ListOrder (list_place s from d.0 d.1)) (disorder (raw bytes) row_lists)) same
-    ∙ ap (λ (n : ℕ). option_map (λ (d : RowList × ℕ). fault kinds.ListOrder (list_place (sizes_of bytes) n d.0 d.1)) (disorder (raw bytes) row_lists)) begin
+    e ∙ ap (λ (r : Rows). option_map (λ (d : RowList × ℕ). fault_at kinds.ListOrder (list_place sizes from d.0 d.1)) (disorder r row_lists)) (funext rows (raw bytes) h)
+    ∙ ap (λ (s : Sizes). option_map (λ (d : RowList × ℕ). fault_at kinds.ListOrder (list_place s from d.0 d.1)) (disorder (raw bytes) row_lists)) same
+    ∙ ap (λ (n : ℕ). option_map (λ (d : RowList × ℕ). fault_at kinds.ListOrder (list_place (sizes_of bytes) n d.0 d.1)) (disorder (raw bytes) row_lists)) begin
 
 pub fault_is : (bytes : List ℕ) (found : Option ImageFault) → header_fault bytes ≡ None → found ≡ list_fault bytes → fault_of bytes ≡ found
 fault_is bytes found h e = ap (λ (o : Option ImageFault). or_else o (list_fault bytes)) h ∙ sym e

@@ -4,14 +4,11 @@ use Rattle.md_bytes.specs.Bytes.{total}
 use Rattle.md_schema.specs.declared.table.Table.TheVariants as tables
 use Rattle.md_schema.specs.declared.sizes.Sizes.{Sizes}
 use Rattle.md_schema.specs.declared.faults.ImageFault.{ImageFault}
-use Rattle.md_schema.specs.declared.faults.ImageKind.{ImageKind}
 use Rattle.md_schema.specs.declared.faults.ImageKind.TheVariants as kinds
+use Rattle.md_schema.specs.Faults.{fault_at}
 use Rattle.md_schema.specs.Tables.{has_bit, valid_of, sizes_of, rows_from, rows_end, table_start, row_width, widths_of, raw}
 use Rattle.md_tables.specs.declared.lists.RowList.{RowList}
 use Rattle.md_tables.specs.Numbers.{Rows, is_known}
-
-abbrev pub fault : ImageKind → ℕ → ImageFault
-fault kind offset = record { kind = kind; offset = offset }
 
 -- the first of so many numbers from n on that passes
 unfoldable pub first_from : (ℕ → Bool) → ℕ → ℕ → Option ℕ
@@ -71,14 +68,14 @@ abbrev pub list_place : Sizes → ℕ → RowList → ℕ → ℕ
 list_place sizes from list row = from + table_start sizes list.owner + row * row_width sizes list.owner + total (take list.column (widths_of sizes list.owner))
 
 abbrev pub list_fault : List ℕ → Option ImageFault
-list_fault bytes = option_map (λ found. fault kinds.ListOrder (list_place (sizes_of bytes) (rows_from bytes) found.0 found.1)) (disorder (raw bytes) row_lists)
+list_fault bytes = option_map (λ found. fault_at kinds.ListOrder (list_place (sizes_of bytes) (rows_from bytes) found.0 found.1)) (disorder (raw bytes) row_lists)
 
 -- The header is cut, Valid has a bit of no table, or the rows end past the stream.
 abbrev pub header_fault : List ℕ → Option ImageFault
 header_fault bytes =
-    if nat_lt (length bytes) 24 then Some (fault kinds.ShortTable (length bytes))
-    else if has_unknown (valid_of bytes) then Some (fault kinds.UnknownTable 8)
-    else if nat_lt (length bytes) (rows_end bytes) then Some (fault kinds.ShortTable (length bytes))
+    if nat_lt (length bytes) 24 then Some (fault_at kinds.ShortTable (length bytes))
+    else if has_unknown (valid_of bytes) then Some (fault_at kinds.UnknownTable 8)
+    else if nat_lt (length bytes) (rows_end bytes) then Some (fault_at kinds.ShortTable (length bytes))
     else None
 
 abbrev pub fault_of : List ℕ → Option ImageFault

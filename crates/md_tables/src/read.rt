@@ -5,7 +5,8 @@ ghost use Rattle.md_schema.specs.declared.table.Table.{Table};
 ghost use Rattle.md_schema.specs.Schema.{all_tables, place_of};
 ghost use Rattle.md_schema.specs.Tables.{raw, rows_end, rows_from, sizes_of};
 ghost use Rattle.md_schema.specs.Widths.{count_of};
-ghost use Rattle.md_tables.specs.Faults.{disorder, disordered_in, fault, fault_of, list_place, row_lists};
+ghost use Rattle.md_tables.specs.Faults.{disorder, disordered_in, fault_of, list_place, row_lists};
+ghost use Rattle.md_schema.specs.Faults.{fault_at};
 ghost use Rattle.md_tables.specs.Rows.{rows_of};
 ghost use Rattle.md_tables.specs.Stops.{IfRefused};
 
@@ -50,7 +51,7 @@ fn read_view(alloc: Global, bytes: &[u8], header: &Header) -> Result<TableView, 
 fn list_fault(view: &TableView, header: &Header) -> Option<ImageFault>
     requires counts { (table : Table) → length (rows_of view.now table) ≡ count_of header.now.sizes table }
     requires from { header.now.from < 2 ^ 32 }
-    ensures { result ≡ option_map (λ found. fault ImageKind.ListOrder (list_place header.now.sizes header.now.from found.0 found.1)) (disorder (rows_of view.now) row_lists) }
+    ensures { result ≡ option_map (λ found. fault_at ImageKind.ListOrder (list_place header.now.sizes header.now.from found.0 found.1)) (disorder (rows_of view.now) row_lists) }
 {
     match first_disorder(view, &header.sizes, &ROW_LISTS) {
         Some((list, row)) => Some(ImageFault {

@@ -2,7 +2,7 @@
 
 ghost use Rattle.std.specs.Prelude.{◌≡◌, ◌<◌, ◌≤◌, ◌-◌, ◌⊎◌, ◌↔◌, ℕ, [], length, get_or, IfOk, IfErr, OnErr, OnOk, IsErr};
 ghost use Rattle.md_schema.specs.Schema.{columns_of};
-ghost use Rattle.md_tables.specs.Faults.{fault};
+ghost use Rattle.md_schema.specs.Faults.{fault_at};
 ghost use Rattle.md_tables.specs.Lists.{cells_in};
 ghost use Rattle.md_tables.specs.Rows.{rows_of};
 
@@ -23,7 +23,7 @@ impl TableView {
         ensures cells { IfOk result (λ row. (column : ℕ) → column < N →
             get_or row.cells column 0 ≡ get_or (get_or (rows_of self.now table) (index - 1) []) column 0) }
         ensures refused { OnErr result ((index ≡ 0) ⊎ (length (rows_of self.now table) < index)) }
-        ensures fault { IfErr result (λ e. e ≡ fault ImageKind.RowRange 0) }
+        ensures fault { IfErr result (λ e. e ≡ fault_at ImageKind.RowRange 0) }
     {
         let rows = self.rows(table);
         if index == 0 || index as usize > rows.len() {

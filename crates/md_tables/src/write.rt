@@ -82,8 +82,8 @@ fn put_head(out: &mut Vec<u8>, heaps: u8, valid: u64) -> Result<(), AllocError>
     ensures { OnOk result (out.new.items ≡ out.old.items ++ head_bytes heaps valid) }
 {
     out.extend_from_slice(&[0, 0, 0, 0, 2, 0, heaps, 1])?;
-    put_long(out, valid)?;
-    put_long(out, SORTED)?;
+    put_number(out, 8, valid)?;
+    put_number(out, 8, SORTED)?;
     Ok(())
 }
 
@@ -93,18 +93,6 @@ fn heap_bits(sizes: &Sizes) -> u8
     (if sizes.long_texts { 1 } else { 0 })
         + (if sizes.long_guids { 2 } else { 0 })
         + (if sizes.long_blobs { 4 } else { 0 })
-}
-
-/// Writes a number of eight bytes at the end of `out`, low byte first.
-fn put_long(out: &mut Vec<u8>, n: u64) -> Result<(), AllocError>
-    ensures { OnOk result (out.new.items ≡ out.old.items ++ le 8 n) }
-{
-    let mut rest = n;
-    for _ in 0..8u32 {
-        out.push((rest % 256) as u8)?;
-        rest /= 256;
-    }
-    Ok(())
 }
 
 fn put_counts(out: &mut Vec<u8>, rows: &[u32]) -> Result<(), AllocError>

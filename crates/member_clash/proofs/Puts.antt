@@ -1,7 +1,7 @@
 -- Numbers of names that are put behind numbers.
 use Rattle.std.proofs.Common.{◌≡◌, ◌<◌, ◌+◌, ℕ, List, [], ◌∷◌, ◌++◌, Option, Some, Result, OnOk, take, length, get_or, sym, subst}
 use Rattle.std.specs.List.{flat_map}
-use Rattle.wr_rules.specs.Members.{lower}
+use Rattle.wr_base.specs.Lower.{lower}
 use Rattle.numbered.specs.Numbers.{IsNumbering, Kept}
 use Rattle.numbered.proofs.Puts.{by_none, by_one, by_then, on_ok_then, flat_more}
 use Rattle.member_clash.specs.Names.{Put}

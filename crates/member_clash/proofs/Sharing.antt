@@ -7,7 +7,7 @@ use Rattle.std.proofs.lemmas.List.{take_more}
 use Rattle.chains.specs.Graphs.{In, steps_of}
 use Rattle.stamps.specs.Shared.{Shared}
 use Rattle.wr_base.specs.declared.declaration.Declaration.{Declaration}
-use Rattle.wr_rules.specs.Members.{lower}
+use Rattle.wr_base.specs.Lower.{lower}
 use Rattle.wr_rules.specs.MemberRules.{has_name, shares}
 use Rattle.wr_rules.specs.ListRules.{names_at, clash_of, Clash}
 use Rattle.wr_rules.proofs.ClashLaws.{Holds, one_passes, any_passes, clash_told, tell_clash}

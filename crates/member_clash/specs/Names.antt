@@ -1,7 +1,8 @@
 -- The numbers of names in lower case.
 use Rattle.std.specs.Prelude.{ℕ, List, ◌∷◌, Option}
 use Rattle.wr_base.specs.declared.declaration.Member.{Member}
-use Rattle.wr_rules.specs.Members.{lower, member_name, accessors_of}
+use Rattle.wr_rules.specs.Members.{member_name, accessors_of}
+use Rattle.wr_base.specs.Lower.{lower}
 use Rattle.numbered.specs.Numbers.{IsNumbering, PutBy}
 
 -- names' numbers were put behind a list, by lower case

@@ -5,7 +5,8 @@ use Rattle.wr_base.specs.Uses.{text_of}
 use Rattle.wr_base.specs.declared.declaration.Declaration.{Declaration}
 use Rattle.wr_base.specs.declared.declaration.Declaration.TheVariants.{Enum, Struct, Delegate, Interface, Class}
 use Rattle.wr_rules.specs.Kinds.{meaning_of}
-use Rattle.wr_rules.specs.Members.{lower, names_within}
+use Rattle.wr_rules.specs.Members.{names_within}
+use Rattle.wr_base.specs.Lower.{lower}
 use Rattle.wr_rules.specs.ListRules.{names_at, clash_of}
 use Rattle.numbered.specs.Numbers.{number_in, NumbersBy, PutBy}
 use Rattle.numbered.specs.Tables.{Known}

@@ -9,7 +9,8 @@ use Rattle.wr_base.specs.declared.code.Code.TheVariants.{MemberCase, OverloadKin
 use Rattle.wr_base.specs.declared.declaration.Member.{Member}
 use Rattle.placed_sites.specs.Views.{give}
 use Rattle.wr_rules.specs.Sites.{Spot, broken_at}
-use Rattle.wr_rules.specs.Members.{lower, member_name, Standing}
+use Rattle.wr_rules.specs.Members.{member_name, Standing}
+use Rattle.wr_base.specs.Lower.{lower}
 use Rattle.wr_rules.specs.MemberRules.{Pair, EachPaired, is_method, mixes, differs_in_case}
 use Rattle.wr_rules.proofs.CountLaws.{with_name, with_lower, others_with_name, case_by_counts, KindCounts, kind_by_counts}
 use Rattle.member_counts.specs.Tallies.{Mixed}

@@ -4,7 +4,8 @@ ghost use Rattle.std.specs.Prelude.{◌≡◌, ◌<◌, ◌↔◌, ℕ, List, Is
 ghost use Rattle.std.specs.Str.{bytes_eq};
 ghost use Rattle.ranked.specs.First.{IsFirst};
 ghost use Rattle.wr_base.specs.declared.code.Code.TheVariants.{MemberCase as case_code};
-ghost use Rattle.wr_rules.specs.Members.{lower, member_name};
+ghost use Rattle.wr_rules.specs.Members.{member_name};
+ghost use Rattle.wr_base.specs.Lower.{lower};
 ghost use Rattle.wr_rules.specs.MemberRules.{EachPaired, differs_in_case};
 ghost use Rattle.member_counts.specs.Tallies.{count_at};
 
@@ -37,7 +38,8 @@ impl<'a> ItemRule<Standing<'a, Member>> for Spellings {
     ghost use Rattle.ranked.specs.First.{Only};
     ghost use Rattle.wr_base.specs.declared.code.Code.TheVariants.{MemberCase as case_code};
     ghost use Rattle.wr_rules.specs.Sites.{broken_at};
-    ghost use Rattle.wr_rules.specs.Members.{lower, member_name};
+    ghost use Rattle.wr_rules.specs.Members.{member_name};
+    ghost use Rattle.wr_base.specs.Lower.{lower};
     ghost use Rattle.member_counts.specs.Tallies.{count_at};
 
     ghost broken = { λ t m. Only (count_at t.exact (member_name m.part) < count_at t.folded (lower (member_name m.part))) (broken_at case_code m.spot) };

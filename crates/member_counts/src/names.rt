@@ -28,7 +28,8 @@ pub struct Lower;
 
 impl Counted for Lower {
     ghost use Rattle.std.specs.Str.{bytes_eq};
-    ghost use Rattle.wr_rules.specs.Members.{lower, member_name};
+    ghost use Rattle.wr_rules.specs.Members.{member_name};
+    ghost use Rattle.wr_base.specs.Lower.{lower};
 
     ghost has = { λ _ m text. bytes_eq (lower (member_name m.part)) text };
 

@@ -12,7 +12,7 @@ use wr_base::{Code, Refusal};
 struct Keys;
 
 impl<'a> Repeats<Overload<'a>> for Keys {
-    ghost use Rattle.wr_rules.specs.Members.{lower};
+    ghost use Rattle.wr_base.specs.Lower.{lower};
     ghost use Rattle.placed_sites.specs.Views.{spot_view};
     ghost use Rattle.member_rules.specs.Overloads.{key_of};
 

@@ -2,7 +2,8 @@
 
 ghost use Rattle.std.specs.Prelude.{◌≡◌, ◌++◌, ◌∷◌, [], IfOk, OnOk, map, string_bytes};
 ghost use Rattle.std.specs.List.{filter_map};
-ghost use Rattle.wr_rules.specs.Members.{lower, members_at};
+ghost use Rattle.wr_rules.specs.Members.{members_at};
+ghost use Rattle.wr_base.specs.Lower.{lower};
 ghost use Rattle.wr_rules.specs.MemberRules.{overload_of};
 ghost use Rattle.placed_sites.specs.Views.{site_view};
 ghost use Rattle.member_rules.specs.Overloads.{ones, key_of, overload_view};

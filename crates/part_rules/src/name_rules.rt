@@ -14,7 +14,7 @@ use wr_base::{Code, Param, Refusal, Signature, lowered};
 struct Titles;
 
 impl<'a, X: Titled> Repeats<Standing<'a, X>> for Titles {
-    ghost use Rattle.wr_rules.specs.Members.{lower};
+    ghost use Rattle.wr_base.specs.Lower.{lower};
 
     ghost key = { λ _ it. lower (X.title it.part) };
 
@@ -36,7 +36,7 @@ struct ParamNames<'a> {
 }
 
 impl<'a> Repeats<Param> for ParamNames<'a> {
-    ghost use Rattle.wr_rules.specs.Members.{lower};
+    ghost use Rattle.wr_base.specs.Lower.{lower};
     ghost use Rattle.placed_sites.specs.Views.{spot_view};
 
     ghost key = { λ _ param. lower param.name };
@@ -59,7 +59,7 @@ impl<'a> ItemRule<Standing<'a, Signature>> for SignatureRepeat {
     ghost use Rattle.ranked.specs.Repeats.{Repeated};
     ghost use Rattle.wr_base.specs.declared.code.Code.TheVariants.{ParamRepeat as repeat};
     ghost use Rattle.wr_rules.specs.Sites.{broken_at};
-    ghost use Rattle.wr_rules.specs.Members.{lower};
+    ghost use Rattle.wr_base.specs.Lower.{lower};
 
     ghost broken = { λ _ g. Repeated (λ p. lower p.name) (λ p. broken_at repeat g.spot) g.part.params };
 

@@ -8,7 +8,7 @@ use Rattle.ranked.specs.First.{Below, At, Only}
 use Rattle.wr_base.specs.declared.code.Code.TheVariants.{NamespaceClash}
 use Rattle.found_table.specs.Table.{table, name_of as found_name}
 use Rattle.wr_rules.specs.Sites.{Site, site_name, spot_of, broken_at}
-use Rattle.wr_rules.specs.Members.{lower}
+use Rattle.wr_base.specs.Lower.{lower}
 use Rattle.wr_rules.specs.NameRules.{holds, same_lower, all_names, TakenBefore, NamesClash, IsNamespaceClash}
 use Rattle.place_laws.specs.Moves.{Moves}
 use Rattle.place_laws.specs.Shapes.{shape}

@@ -13,7 +13,8 @@ use Rattle.wr_base.specs.declared.declaration.Field.{Field}
 use Rattle.wr_base.specs.declared.places.DeclPlaces.{DeclPlaces}
 use Rattle.wr_base.specs.Trees.{UseTree, within}
 use Rattle.wr_rules.specs.Sites.{Spot, If, broken_at}
-use Rattle.wr_rules.specs.Members.{Standing, members_at, cases_at, fields_at, lower}
+use Rattle.wr_rules.specs.Members.{Standing, members_at, cases_at, fields_at}
+use Rattle.wr_base.specs.Lower.{lower}
 use Rattle.wr_rules.specs.Uses.{Role, uses_at}
 use Rattle.wr_rules.specs.UseRules.{EachWithin, Each, EachInside, inner}
 use Rattle.wr_rules.specs.MemberRules.{IsEnumRepeat, IsFieldRepeat, IsParamRepeat, IsEnumRange, IsOverloadArity, EachPaired, fits, is_flags, signatures_at, overload_of}

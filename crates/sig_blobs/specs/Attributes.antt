@@ -5,6 +5,7 @@ use Rattle.std.specs.Str.{is_utf8}
 use Rattle.byteorder.specs.Endian.{little_bytes, little_number, big_bytes}
 use Rattle.md_heaps.specs.Integers.{compressed_of, shortest}
 use Rattle.md_heaps.specs.Reading.{guid_at}
+use Rattle.md_schema.specs.Faults.{fault_at}
 use Rattle.md_schema.specs.declared.faults.ImageFault.{ImageFault}
 use Rattle.md_schema.specs.declared.faults.ImageKind.TheVariants.{BadShape}
 use Rattle.wr_base.specs.Paths.{is_path}
@@ -92,7 +93,7 @@ argument_in kinds.Id bytes = id_in bytes
 
 abbrev pub shaped : ℕ → Option Argument → Result Argument ImageFault
 shaped offset (Some argument) = Ok argument
-shaped offset None = Err (record { kind = BadShape; offset = offset })
+shaped offset None = Err (fault_at BadShape offset)
 
 abbrev pub argument_behind : ArgumentKind → Option (List ℕ) → Result Argument ImageFault
 argument_behind kind None = shaped 0 None

@@ -1,5 +1,6 @@
 -- Reading at the front of a blob: what is read and the bytes behind it, or what is wrong and how many bytes are left from there on.
 use Rattle.std.specs.Prelude.{ℕ, zero, suc, ◌-◌, ◌==◌, List, [], ◌∷◌, length, drop, Result, Ok, Err, if◌then◌else◌}
+use Rattle.md_schema.specs.Faults.{fault_at}
 use Rattle.md_schema.specs.declared.faults.ImageFault.{ImageFault}
 use Rattle.md_schema.specs.declared.faults.ImageKind.{ImageKind}
 use Rattle.md_schema.specs.declared.faults.ImageKind.TheVariants.{SigShort, SigElement, SigTail}
@@ -22,7 +23,7 @@ abbrev pub ◌>>=◌ : {A B : Type 0} → Result A Flaw → (A → Result B Flaw
 
 -- the fault of a blob, at its offset there
 abbrev pub fault_in : List ℕ → Flaw → ImageFault
-fault_in blob e = record { kind = e.kind; offset = length blob - e.left }
+fault_in blob e = fault_at e.kind (length blob - e.left)
 
 abbrev pub placed : {A : Type 0} → List ℕ → Result A Flaw → Result A ImageFault
 placed blob (Ok x) = Ok x

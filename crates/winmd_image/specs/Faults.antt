@@ -1,11 +1,12 @@
 -- Steps of reading, of which the first fault is the answer.
 use Rattle.std.specs.Prelude.{ℕ, ◌+◌, nat_lt, bytes_eq, List, length, Result, Ok, Err, Bool, true, false, if◌then◌else◌}
 use Rattle.md_bytes.specs.Bytes.{number_at, part_at}
+use Rattle.md_schema.specs.Faults.{fault_at}
 use Rattle.md_schema.specs.declared.faults.ImageFault.{ImageFault}
 use Rattle.md_schema.specs.declared.faults.ImageKind.{ImageKind}
 
 abbrev pub fault : {A : Type 0} → ImageKind → ℕ → Result A ImageFault
-fault kind offset = Err (record { kind = kind; offset = offset })
+fault kind offset = Err (fault_at kind offset)
 
 infixl 10 ◌>>=◌
 abbrev pub ◌>>=◌ : {A B : Type 0} → Result A ImageFault → (A → Result B ImageFault) → Result B ImageFault

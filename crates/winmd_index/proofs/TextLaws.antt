@@ -2,7 +2,8 @@
 use Rattle.std.proofs.Common.{◌≡◌, ◌-◌, ℕ, Bool, true, false, cond, List, [], length, drop, nat_lt, Option, Some, None, Result, Ok, Err, slice_get, refl, subst}
 use Rattle.std.specs.Str.{IsUtf8, is_utf8}
 use Rattle.std.proofs.lemmas.Str.{IsUtf8-from_is_utf8, IsUtf8-nil, is_utf8-from_IsUtf8}
-use Rattle.md_heaps.specs.Faults.{fault_at, past_heap, HeapText}
+use Rattle.md_heaps.specs.Faults.{past_heap, HeapText}
+use Rattle.md_schema.specs.Faults.{fault_at}
 use Rattle.md_heaps.specs.Reading.{text_at, ended, until_zero}
 use Rattle.md_schema.specs.declared.column.Column.TheVariants.{Texts}
 use Rattle.md_schema.specs.declared.faults.ImageFault.{ImageFault}

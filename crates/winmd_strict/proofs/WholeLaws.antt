@@ -12,7 +12,8 @@ use Rattle.md_schema.specs.Written.{bits, row_counts, rows_bytes, table_head, ta
 use Rattle.md_schema.proofs.CountLemmas.{length-table_head}
 use Rattle.md_schema.proofs.TablesLemmas.{raw_again, written_end}
 use Rattle.md_tables.specs.declared.lists.RowList.{RowList}
-use Rattle.md_tables.specs.Faults.{first_from, is_unknown, has_unknown, fault_of, disorder, row_lists, list_fault, list_place, or_else, fault}
+use Rattle.md_tables.specs.Faults.{first_from, is_unknown, has_unknown, fault_of, disorder, row_lists, list_fault, list_place, or_else}
+use Rattle.md_schema.specs.Faults.{fault_at}
 use Rattle.md_tables.specs.Numbers.{Rows, by_number, count_or}
 use Rattle.md_tables.proofs.HeaderLemmas.{whole_rows}
 use Rattle.md_tables.proofs.FirstLemmas.{none_from}
@@ -46,7 +47,7 @@ faultless sizes rows rest fit is ordered =
     let known : has_unknown (valid_of bytes) ≡ false = ap has_unknown valid ∙ ap (λ (o : Option ℕ). is_some o) none in
     let ends : rows_end bytes ≤ length bytes = omega (arith, written_end sizes rows rest fit, length-append stream rest) in
     let lists : disorder (raw bytes) row_lists ≡ None = ap (λ (r : Rows). disorder r row_lists) (funext (raw bytes) rows (λ t. raw_again sizes rows rest t fit)) ∙ ordered in
-    let no_list : list_fault bytes ≡ None = ap (λ (d : Option (RowList × ℕ)). option_map (λ (found : RowList × ℕ). fault kinds.ListOrder (list_place (sizes_of bytes) (rows_from bytes) found.0 found.1)) d) lists in
+    let no_list : list_fault bytes ≡ None = ap (λ (d : Option (RowList × ℕ)). option_map (λ (found : RowList × ℕ). fault_at kinds.ListOrder (list_place (sizes_of bytes) (rows_from bytes) found.0 found.1)) d) lists in
     ap (λ (o : Option ImageFault). or_else o (list_fault bytes)) (whole_rows bytes long known ends) ∙ no_list
 
 abbrev tables_in : List ℕ → values.Rows → ℕ → Result Tables Fault

@@ -4,7 +4,8 @@ use Rattle.std.proofs.lemmas.Option.{same_Some}
 use Rattle.std.specs.Str.{bytes_eq}
 use Rattle.std.specs.Cmp.Lexicographic.{bytes_decides}
 use Rattle.wr_base.specs.declared.declaration.Member.{Member}
-use Rattle.wr_rules.specs.Members.{lower, member_name, abi_names, Standing}
+use Rattle.wr_rules.specs.Members.{member_name, abi_names, Standing}
+use Rattle.wr_base.specs.Lower.{lower}
 use Rattle.wr_rules.specs.MemberRules.{has_name, same_lower, shares_abi, takes_abi, Pair}
 use Rattle.wr_rules.proofs.ClashLaws.{Holds, one_passes, any_passes}
 use Rattle.wr_rules.proofs.CountLaws.{one_of, of_one, another, of_two, one_apart, apart_more, both, both_of, not_true, of_false, tells}

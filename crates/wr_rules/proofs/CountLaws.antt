@@ -4,7 +4,8 @@ use Rattle.std.proofs.lemmas.Option.{none-some, same_Some}
 use Rattle.std.proofs.lemmas.List.Sums.{sum_by-cons}
 use Rattle.std.specs.Cmp.Lexicographic.{bytes_decides}
 use Rattle.wr_base.specs.declared.declaration.Member.{Member}
-use Rattle.wr_rules.specs.Members.{lower, member_name, Standing}
+use Rattle.wr_rules.specs.Members.{member_name, Standing}
+use Rattle.wr_base.specs.Lower.{lower}
 use Rattle.wr_rules.specs.MemberRules.{is_method, same_name, same_lower, mixes, differs_in_case, Pair}
 
 pub tells : (b : Bool) → (b ≡ true) ⊎ (b ≡ false)

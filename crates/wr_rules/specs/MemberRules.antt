@@ -13,7 +13,8 @@ use Rattle.wr_base.specs.declared.declaration.Member.{Member}
 use Rattle.wr_base.specs.declared.declaration.Declaration.{Declaration}
 use Rattle.wr_base.specs.declared.declaration.Declaration.TheVariants.{Enum, Struct, Delegate, Interface}
 use Rattle.wr_rules.specs.Sites.{Spot, Site, spot_of, broken_at, If}
-use Rattle.wr_rules.specs.Members.{lower, member_name, abi_names, signature_in, Standing, members_at, cases_at, fields_at}
+use Rattle.wr_rules.specs.Members.{member_name, abi_names, signature_in, Standing, members_at, cases_at, fields_at}
+use Rattle.wr_base.specs.Lower.{lower}
 
 -- a signature where its member stands
 abbrev pub with_spot : Spot → Option Signature → Option (Standing Signature)

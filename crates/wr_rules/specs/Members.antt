@@ -14,10 +14,6 @@ use Rattle.found_table.specs.Found.{FoundMemberRow, FoundRow}
 use Rattle.wr_rules.specs.Kinds.{Meaning, declared, found}
 use Rattle.wr_rules.specs.Sites.{Spot, Site, part_spot}
 
--- a name in lower case
-abbrev pub lower : List ℕ → List ℕ
-lower = map to_ascii_lowercase
-
 -- the name of a member
 abbrev pub member_name : Member → List ℕ
 member_name (Method name abi sig) = name

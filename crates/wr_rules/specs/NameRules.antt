@@ -11,7 +11,7 @@ use Rattle.found_table.specs.Table.{table, name_of as found_name}
 use Rattle.wr_base.specs.Trees.{UseTree, instance, within, text_of_tree}
 use Rattle.wr_rules.specs.Kinds.{declared, found}
 use Rattle.wr_rules.specs.Sites.{Site, site_name, spot_of, broken_at, StandsBefore}
-use Rattle.wr_rules.specs.Members.{lower}
+use Rattle.wr_base.specs.Lower.{lower}
 use Rattle.wr_rules.specs.Uses.{Used, uses_at}
 use Rattle.wr_rules.specs.Signatures.{own_id, id_of}
 

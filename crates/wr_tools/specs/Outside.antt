@@ -2,6 +2,7 @@
 use Rattle.std.specs.Prelude.{◌≡◌, ℕ, ◌≤◌, Option, List, IfSome}
 use Rattle.wr_outside.specs.Cause.{Rose}
 use Rattle.wr_outside.specs.Files.{Files}
+use Rattle.source_set.specs.Reads.{MayHold}
 
 -- what the store and the sinks tell at one moment, and their counts of faults
 pub record Outside : Type 0 where
@@ -23,10 +24,6 @@ pub record NoneRose (before after : Outside) : Type 0 where
   pub store : ¬ (Rose before.store_faults after.store_faults)
   pub out : ¬ (Rose before.out_faults after.out_faults)
   pub err : ¬ (Rose before.err_faults after.err_faults)
-
--- these are the files of the store, as far as it tells them
-abbrev pub MayHold : Option Files → Files → Type 0
-MayHold held files = IfSome held (λ told. told ≡ files)
 
 -- it holds of some files that the store may hold
 pub record ForSome (held : Option Files) (Holds : Files → Type 0) : Type 0 where

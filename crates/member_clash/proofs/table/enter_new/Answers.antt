@@ -9,7 +9,7 @@ use Rattle.numbered.specs.Tables.{Known}
 use Rattle.numbered.specs.declared.numbers.Numbers.{Numbers}
 use Rattle.numbered.proofs.Puts.{map_both}
 use Rattle.numbered.proofs.Tables.{known_more}
-use Rattle.wr_rules.specs.Members.{lower}
+use Rattle.wr_base.specs.Lower.{lower}
 use Rattle.member_clash.proofs.table.enter_new.Goals as goal
 
 -- where a number was given

@@ -1,7 +1,8 @@
 use Rattle.std.proofs.Common.{◌<◌}
 use Rattle.wr_base.specs.declared.code.Code.TheVariants.{MemberCase}
 use Rattle.placed_sites.specs.Views.{spot_view}
-use Rattle.wr_rules.specs.Members.{lower, member_name}
+use Rattle.wr_rules.specs.Members.{member_name}
+use Rattle.wr_base.specs.Lower.{lower}
 use Rattle.member_counts.specs.Tallies.{count_at}
 use Rattle.member_counts.proofs.Paired.{tested}
 use Rattle.member_counts.proofs.member_case.SpellingsItemRuleStandingMember.first_at.Goals as goal

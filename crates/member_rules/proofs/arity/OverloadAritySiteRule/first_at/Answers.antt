@@ -3,7 +3,8 @@ use Rattle.ranked.specs.First.{IsFirst}
 use Rattle.ranked.specs.Repeats.{Repeated}
 use Rattle.wr_base.specs.declared.code.Code.TheVariants.{OverloadArity}
 use Rattle.wr_rules.specs.Sites.{broken_at}
-use Rattle.wr_rules.specs.Members.{Standing, lower}
+use Rattle.wr_rules.specs.Members.{Standing}
+use Rattle.wr_base.specs.Lower.{lower}
 use Rattle.member_rules.specs.Overloads.{key_of, overload_view}
 use Rattle.member_rules.specs.declared.overloads.Overload.{Overload}
 use Rattle.member_rules.proofs.Keys.{told, keyed}

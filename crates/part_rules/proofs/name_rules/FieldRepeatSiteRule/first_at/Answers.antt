@@ -4,7 +4,8 @@ use Rattle.ranked.specs.Repeats.{Repeated}
 use Rattle.wr_base.specs.declared.declaration.Field.{Field}
 use Rattle.wr_base.specs.declared.code.Code.TheVariants.{FieldRepeat}
 use Rattle.wr_rules.specs.Sites.{broken_at}
-use Rattle.wr_rules.specs.Members.{Standing, lower}
+use Rattle.wr_rules.specs.Members.{Standing}
+use Rattle.wr_base.specs.Lower.{lower}
 use Rattle.part_rules.proofs.name_rules.FieldRepeatSiteRule.first_at.Goals as goal
 
 pub returns : goal.returns

@@ -5,7 +5,7 @@ use Rattle.placed_sites.specs.Views.{spot_view}
 use Rattle.wr_base.specs.declared.declaration.Param.{Param}
 use Rattle.wr_base.specs.declared.code.Code.TheVariants.{ParamRepeat}
 use Rattle.wr_rules.specs.Sites.{Spot, broken_at}
-use Rattle.wr_rules.specs.Members.{lower}
+use Rattle.wr_base.specs.Lower.{lower}
 use Rattle.part_rules.proofs.name_rules.SignatureRepeatItemRuleStandingSignature.first_at.Goals as goal
 
 pub returns : goal.returns
