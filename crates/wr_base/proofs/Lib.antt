@@ -8,3 +8,4 @@ pub mod PartLaws
 pub mod WordLaws
 pub mod TreeLaws
 pub mod OrderLaws
+pub mod FindLaws

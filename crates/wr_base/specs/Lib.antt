@@ -12,3 +12,4 @@ pub mod Sets
 pub mod Normal
 pub mod Places
 pub mod Ids
+pub mod Finding

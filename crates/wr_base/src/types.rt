@@ -4,10 +4,13 @@ ghost use Rattle.std.specs.Prelude.{◌≡◌, ◌<◌, ◌≤◌, ◌+◌, ◌^
 ghost use Rattle.std.specs.Option.{option_copied};
 ghost use Rattle.std.specs.Ordering.{nat_cmp};
 ghost use Rattle.std.specs.List.{AllAdjacentBelow};
+ghost use Rattle.std.specs.HashMap.{get_by_text, Updates};
+ghost use Rattle.std.specs.String.{string_eq};
 ghost use Rattle.std.specs.List.Sorted.{IsPermutation, IsSortedByKey};
 ghost use Rattle.std.specs.Cmp.Lexicographic.{slice_cmp};
 ghost use Rattle.wr_base.specs.declared.declaration.Declaration.TheVariants.{Interface, Class};
 ghost use Rattle.wr_base.specs.Declarations.{declared_as, name_of, Precedes, IsInOrder, FirstRepeat, IsOnce};
+ghost use Rattle.wr_base.specs.Finding.{Finds};
 ghost use Rattle.wr_base.specs.Sets.{set_by};
 ghost use Rattle.wr_base.specs.Uses.{text_of};
 ghost use Rattle.wr_base.specs.Normal.{normal, names_in_order};
@@ -18,18 +21,21 @@ use crate::same::same_lists;
 use crate::sets::uses_in_order;
 use crate::{Declaration, FullName, Members, Same, Stop, TypeUse, Uses};
 use std::alloc::{AllocError, Global};
+use std::collections::HashMap;
 use std::marker::Model;
 
 /// Declarations in the order of their full names by bytes, each name once.
 #[derive(Debug, Drop)]
 pub struct Types {
     items: Vec<Declaration>,
+    places: HashMap<String, u32>,
 }
 
 impl Model for Types {
     ghost use Rattle.std.specs.Prelude.{List};
     ghost use Rattle.wr_base.specs.declared.declaration.Declaration.{Declaration};
-    ghost use Rattle.wr_base.specs.Declarations.{IsInOrder};
+    ghost use Rattle.std.specs.HashMap.{get_by_text};
+    ghost use Rattle.wr_base.specs.Finding.{IsTable};
     ghost use Rattle.std.specs.Coded.{codes};
     ghost use Rattle.wr_base.specs.contracts.type_use.TypeUse as uses;
 
@@ -39,7 +45,7 @@ impl Model for Types {
 
     ghost view = { λ t. t.items.items };
 
-    ghost invariant = { λ t. IsInOrder t.items.items };
+    ghost invariant = { λ t. IsTable t.items.items (get_by_text t.places) };
 }
 
 fn sort_by_name(list: &mut Vec<Declaration>) -> Result<(), AllocError>
@@ -65,6 +71,40 @@ fn first_repeat(list: &[Declaration]) -> Option<usize>
         }
     }
     None
+}
+
+fn put_place(places: &mut HashMap<String, u32>, name: String, place: u32) -> Result<(), AllocError>
+    ensures { OnOk result (Updates string_eq places.old places.new name (Some place)) }
+{
+    match places.insert(name, place) {
+        Ok(_) => Ok(()),
+        Err(_) => Err(AllocError),
+    }
+}
+
+// The place of each name.
+fn places_of(alloc: Global, list: &[Declaration]) -> Result<HashMap<String, u32>, AllocError>
+    requires { length list.now < 2 ^ 32 }
+    ensures { IfOk result (λ places. Finds (map name_of list.now) (get_by_text places)) }
+{
+    let mut places = HashMap::new(alloc);
+    for i in 0..list.len() {
+        let name = String::from_str(alloc, list[i].name().as_str())?;
+        put_place(&mut places, name, i as u32)?;
+    }
+    Ok(places)
+}
+
+// Declarations in the order of their names, each once, with the table of their places.
+fn table_of(alloc: Global, list: Vec<Declaration>) -> Result<Types, AllocError>
+    requires { IsInOrder list.items }
+    ensures { IfOk result (λ types. types ≡ list.items) }
+{
+    let places = places_of(alloc, &list)?;
+    Ok(Types {
+        items: list,
+        places,
+    })
 }
 
 fn interface_in_sets(
@@ -167,7 +207,10 @@ impl Types {
             return Err(Stop::Memory);
         }
         match first_repeat(&list) {
-            None => Ok(Types { items: list }),
+            None => match table_of(alloc, list) {
+                Ok(types) => Ok(types),
+                Err(_) => Err(Stop::Memory),
+            },
             Some(at) => match list[at].name().clone() {
                 Ok(name) => Err(Stop::Refused(name)),
                 Err(_) => Err(Stop::Memory),
@@ -201,13 +244,9 @@ impl Types {
         ensures none { IfNone result (declared_as self.now name.now ≡ None) }
         ensures order { IsInOrder self.now }
     {
-        match self
-            .items
-            .as_slice()
-            .binary_search_by(|d| d.name().as_str().cmp(name.as_str()))
-        {
-            Ok(at) => Some(at as u32),
-            Err(_) => None,
+        match self.places.get(name.as_str()) {
+            Some(place) => Some(*place),
+            None => None,
         }
     }
 }
@@ -216,9 +255,7 @@ impl Clone for Types {
     ghost is_clone = { λ a b. b ≡ a };
 
     fn clone(&self) -> Result<Types, AllocError> {
-        Ok(Types {
-            items: self.items.clone()?,
-        })
+        table_of(*self.items.allocator(), self.items.clone()?)
     }
 }
 

@@ -10,28 +10,22 @@ use Rattle.wr_base.proofs.TwiceLemmas.{least_twice, least_before, once_before}
 use Rattle.wr_base.proofs.OrderLaws.{stay_in_order}
 use Rattle.wr_base.proofs.types.Types.from_list.Goals as goal
 
-pub invariant_of-result : goal.invariant_of-result
-invariant_of-result c = record {
+pub table_of-requires : goal.table_of-requires
+table_of-requires c = record {
   rises = search rules;
   short = omega (arith, length_permutation _ _ c.sort_by_name.ensures.permutation, ap length c.in-Ok.ensures, length-map c.args.list.items normal);
 }
 
-pub returns-in-None-clause-order : goal.returns-in-None-clause-order
-returns-in-None-clause-order c = record {
-  rises = search rules;
-  short = omega (arith, length_permutation _ _ c.sort_by_name.ensures.permutation, ap length c.in-Ok.ensures, length-map c.args.list.items normal);
-}
-
-pub returns-in-None-clause-exact : goal.returns-in-None-clause-exact
-returns-in-None-clause-exact c =
+pub returns-in-Ok-table_of-clause-exact : goal.returns-in-Ok-table_of-clause-exact
+returns-in-Ok-table_of-clause-exact c =
     let sorted : List Declaration = c.sort_by_name.new.list.items in
     let moved : IsPermutation (map normal c.args.list.items) sorted =
     subst (λ (xs : List Declaration). IsPermutation xs sorted) c.in-Ok.ensures c.sort_by_name.ensures.permutation in
     let rises : AllAdjacentBelow Precedes sorted (length sorted) = search rules in
-    stay_in_order c.args.list.items sorted moved rises
+    λ h. c.in-Ok-table_of.ensures ∙ stay_in_order c.args.list.items sorted moved rises h
 
-pub returns-in-None-clause-once : goal.returns-in-None-clause-once
-returns-in-None-clause-once c =
+pub returns-in-Ok-table_of-clause-once : goal.returns-in-Ok-table_of-clause-once
+returns-in-Ok-table_of-clause-once c =
     let sorted : List Declaration = c.sort_by_name.new.list.items in
     let moved : IsPermutation (map normal c.args.list.items) sorted =
     subst (λ (xs : List Declaration). IsPermutation xs sorted) c.in-Ok.ensures c.sort_by_name.ensures.permutation in
