@@ -152,16 +152,26 @@ spaces() {
     }'
 }
 
-# least FOLDER: the least time in microseconds, and what is broken
+# least FOLDER: the least time of three runs in one process, in microseconds, and what is broken
 least() {
     "$work/crates/rules_bench/out/rules_bench" "$work/$1"/*.idl
 }
-# compared NAME N: a set and twice the set
+# compared NAME N: a set and twice the set right after that, twelve times over, since other work on a machine disturbs single pairs.
+# What is shown is the least time of each, and how many times as long twice the set takes in such a pair, as the median of the twelve.
 compared() {
-    awk -v name="$1" -v n="$2" -v once="$(least "$1-once")" -v twice="$(least "$1-twice")" 'BEGIN {
-        split(once, a, " "); split(twice, b, " ")
-        printf "%d %s: %.0f ms (%s), %d: %.0f ms (%s), ratio %.2f\n", n, name, a[1] / 1000, once, 2 * n, b[1] / 1000, twice, b[1] / a[1]
-    }'
+    for _ in $(seq 12); do
+        least "$1-once"
+        least "$1-twice"
+    done | awk -v name="$1" -v n="$2" '
+        # the median of the ratios, which are put in order
+        function median(ratios,    i, j, one) {
+            for (i = 2; i <= pairs; i++)
+                for (j = i; j > 1 && ratios[j] < ratios[j - 1]; j--) { one = ratios[j]; ratios[j] = ratios[j - 1]; ratios[j - 1] = one }
+            return (ratios[int((pairs + 1) / 2)] + ratios[int(pairs / 2) + 1]) / 2
+        }
+        NR % 2 == 1 { before = $1; if (NR == 1 || $1 < once) once = $1; $1 = ""; told = $0 }
+        NR % 2 == 0 { ratios[++pairs] = $1 / before; if (NR == 2 || $1 < twice) twice = $1; $1 = ""; told_twice = $0 }
+        END { printf "%d %s: %.0f ms (%s), %d: %.0f ms (%s), the median ratio of %d pairs: %.2f\n", n, name, once / 1000, substr(told, 2), 2 * n, twice / 1000, substr(told_twice, 2), pairs, median(ratios) }'
 }
 alone() {
     mkdir "$work/$1"
