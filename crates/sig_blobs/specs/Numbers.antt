@@ -1,5 +1,5 @@
 -- The number of each type name, as a writer knows it.
-use Rattle.std.specs.BTreeMap.{get_by_text}
+use Rattle.std.specs.HashMap.{get_by_text}
 use Rattle.std.specs.Option.{unwrap_or}
 use Rattle.sig_blobs.specs.declared.tokens.Tokens.{Tokens}
 use Rattle.sig_blobs.specs.Writing.{Numbers}

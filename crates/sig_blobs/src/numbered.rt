@@ -6,7 +6,7 @@ ghost use Rattle.sig_blobs.specs.Numbers.{number_in};
 use crate::tokens::Tokens;
 use ranked::Memory;
 use std::alloc::Global;
-use std::collections::BTreeMap;
+use std::collections::HashMap;
 
 impl Tokens {
     /// One number stands for every type.
@@ -14,7 +14,7 @@ impl Tokens {
         ensures { (name : List ℕ) → number_in result name ≡ other }
     {
         Tokens {
-            numbers: BTreeMap::new(alloc),
+            numbers: HashMap::new(alloc),
             other,
         }
     }
