@@ -3,9 +3,7 @@ use Rattle.std.proofs.Common.{◌≡◌, ◌<◌, ◌+◌, ◌↔◌, ℕ, zero,
 use Rattle.std.proofs.lemmas.Option.{none-some, same_Some}
 use Rattle.std.proofs.lemmas.List.{take_more}
 use Rattle.std.proofs.lemmas.Bool.Decides.{eqb_tells}
-use Rattle.std.specs.Ordering.{nat_cmp, eq_by_cmp}
 use Rattle.std.specs.Global.{Vec}
-use Rattle.std.specs.Cmp.{unsigned_tied}
 use Rattle.id_table.specs.Taken.{Kept, Has, Taken, at, IsPlain, IsTaken, AreTaken, lists_of}
 
 has_left : (A B : List (ℕ × ℕ)) (t i : ℕ) → Has A t i → Has (A ++ B) t i
@@ -102,7 +100,7 @@ module _ (f g h : ℕ → Option ℕ) (places : List (List (ℕ × ℕ))) (n : �
       from : IsTaken f places n → IsTrue taken
       from k = ⊎_elim (λ free. absurd (clash k free)) (λ e. e) (either taken)
 
-pub new_owner : (f g : ℕ → Option ℕ) (text id : ℕ) → f id ≡ None → ((q : ℕ) → g q ≡ cond (eq_by_cmp nat_cmp id q) (Some text) (f q)) → Taken f g ((text, id) ∷ []) false
+pub new_owner : (f g : ℕ → Option ℕ) (text id : ℕ) → f id ≡ None → ((q : ℕ) → g q ≡ cond (nat_eq id q) (Some text) (f q)) → Taken f g ((text, id) ∷ []) false
 new_owner f g text id new u = record {
   kept = λ i t e. ⊎_elim (λ a. absurd (none-some t (sym new ∙ (ap f a.0 ∙ e)))) (λ a. a ∙ e) (split i);
   grown = λ i t e. ⊎_elim (λ a. inr (inl (same_Some text t (sym a.1 ∙ e), a.0))) (λ a. inl (sym a ∙ e)) (split i);
@@ -112,10 +110,10 @@ new_owner f g text id new u = record {
 }
   where
     split : (q : ℕ) → ((id ≡ q) × (g q ≡ Some text)) ⊎ (g q ≡ f q)
-    split q = ⊎_elim (λ t. inl (t.1, u q ∙ ap (λ b. cond b (Some text) (f q)) (unsigned_tied id q ∙ t.0))) (λ t. inr (u q ∙ ap (λ b. cond b (Some text) (f q)) (unsigned_tied id q ∙ t.0))) (eqb_tells id q)
+    split q = ⊎_elim (λ t. inl (t.1, u q ∙ ap (λ b. cond b (Some text) (f q)) t.0)) (λ t. inr (u q ∙ ap (λ b. cond b (Some text) (f q)) t.0)) (eqb_tells id q)
 
     here : g id ≡ Some text
-    here = ⊎_elim (λ t. t.1) (λ t. ⊎_elim (λ a. u id ∙ ap (λ b. cond b (Some text) (f id)) (unsigned_tied id id ∙ a.0)) (λ a. absurd (a.1 refl)) (eqb_tells id id)) (split id)
+    here = ⊎_elim (λ t. t.1) (λ t. ⊎_elim (λ a. u id ∙ ap (λ b. cond b (Some text) (f id)) a.0) (λ a. absurd (a.1 refl)) (eqb_tells id id)) (split id)
 
 answer_left : (on : List Bool) (b : Bool) (k : ℕ) → k < length on → get_or (on ++ b ∷ []) k false ≡ get_or on k false
 answer_left [] b k l = absurd (omega (arith, l))

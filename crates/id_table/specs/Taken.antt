@@ -1,11 +1,17 @@
 -- Who has an id.
-use Rattle.std.specs.Prelude.{◌≡◌, ◌≢◌, ◌<◌, ◌≤◌, ◌↔◌, ◌⊎◌, slice_index_or, map, ℕ, Bool, false, IsTrue, List, [], ◌∷◌, Option, Some}
-use Rattle.std.specs.Ordering.{nat_cmp}
+use Rattle.std.specs.Prelude.{◌≡◌, ◌≢◌, ◌<◌, ◌≤◌, ◌↔◌, ◌⊎◌, slice_index_or, map, ℕ, Bool, false, IsTrue, List, [], ◌∷◌, Option, Some, nat_eq}
 use Rattle.std.specs.Global.{Vec}
-use Rattle.std.specs.BTreeMap.{BTreeMap, get}
+use Rattle.std.specs.HashMap.{HashMap, get}
+use Rattle.std.specs.declared.hash.FoldHasher.{FoldHasher}
+use Rattle.std.specs.declared.hash.BuildHasherDefault.{BuildHasherDefault}
 
-abbrev pub owner : BTreeMap ℕ ℕ → ℕ → Option ℕ
-owner owners id = get nat_cmp owners id
+-- the owners, by id
+abbrev pub Owners : Type 0
+Owners = HashMap ℕ ℕ (BuildHasherDefault FoldHasher)
+
+-- the owner of an id
+abbrev pub owner : Owners → ℕ → Option ℕ
+owner owners id = get nat_eq owners id
 
 abbrev pub Kept : (ℕ → Option ℕ) → (ℕ → Option ℕ) → Type 0
 Kept f g = (i t : ℕ) → f i ≡ Some t → g i ≡ Some t

@@ -4,10 +4,10 @@ ghost use Rattle.std.specs.Prelude.{◌≡◌, ◌≢◌, ◌↔◌, ◌⊎◌, 
 ghost use Rattle.id_table.specs.Taken.{owner, One, Taken, IsPlain, AreTaken, lists_of};
 
 use std::alloc::{AllocError, Global};
-use std::collections::BTreeMap;
+use std::collections::HashMap;
 
 // Whether another text has the id; where none has it, this text does.
-fn take(owners: &mut BTreeMap<u128, u32>, text: u32, id: u128) -> Result<bool, AllocError>
+fn take(owners: &mut HashMap<u128, u32>, text: u32, id: u128) -> Result<bool, AllocError>
     ensures { IfOk result (λ other. One (owner owners.old) (owner owners.new) text id other) }
 {
     match owners.get(&id) {
@@ -20,7 +20,7 @@ fn take(owners: &mut BTreeMap<u128, u32>, text: u32, id: u128) -> Result<bool, A
 }
 
 /// Takes the ids of the texts that stand at one place, and tells whether one of them is another text's that stands there or earlier.
-pub fn take_all(owners: &mut BTreeMap<u128, u32>, items: &[(u32, u128)]) -> Result<bool, AllocError>
+pub fn take_all(owners: &mut HashMap<u128, u32>, items: &[(u32, u128)]) -> Result<bool, AllocError>
     ensures { IfOk result (λ taken. Taken (owner owners.old) (owner owners.new) items.now taken) }
 {
     let mut taken = false;
@@ -41,7 +41,7 @@ fn either(a: bool, b: bool) -> bool
 /// Whether an id of what stands at a place is an owner's from before, or that of another text that stands no later, of each place.
 pub fn taken_at(
     alloc: Global,
-    owners: &mut BTreeMap<u128, u32>,
+    owners: &mut HashMap<u128, u32>,
     places: &[Vec<(u32, u128)>],
 ) -> Result<Vec<bool>, AllocError>
     requires plain { IsPlain (owner owners.old) (lists_of places.now) }

@@ -1,6 +1,6 @@
 -- Texts and their numbers.
 use Rattle.std.specs.Prelude.{◌≡◌, ◌<◌, ℕ, List, ◌++◌, Option, Some, map}
-use Rattle.std.specs.BTreeMap.{get_by_text}
+use Rattle.std.specs.HashMap.{get_by_text}
 use Rattle.numbered.specs.declared.numbers.Numbers.{Numbers}
 
 -- the number of a text, where it has one

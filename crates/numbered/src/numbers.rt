@@ -1,17 +1,17 @@
 //! Texts with their numbers.
 
 ghost use Rattle.std.specs.Prelude.{◌≡◌, ◌+◌, ◌⊎◌, Some, None, List, ℕ, IfOk, OnOk, string_bytes};
-ghost use Rattle.std.specs.BTreeMap.{Updates};
-ghost use Rattle.std.specs.String.{string_cmp};
+ghost use Rattle.std.specs.HashMap.{Updates};
+ghost use Rattle.std.specs.String.{string_eq};
 ghost use Rattle.numbered.specs.Numbers.{number_in, IsNumbering, Kept};
 
 use std::alloc::{AllocError, Global};
-use std::collections::BTreeMap;
+use std::collections::HashMap;
 
 /// Texts with their numbers, which count from 0.
 #[derive(Debug, Drop)]
 pub struct Numbers {
-    pub map: BTreeMap<String, u32>,
+    pub map: HashMap<String, u32>,
     pub count: u32,
 }
 
@@ -21,13 +21,13 @@ pub fn no_numbers(alloc: Global) -> Numbers
     ensures count { result.count ≡ 0 }
 {
     Numbers {
-        map: BTreeMap::new(alloc),
+        map: HashMap::new(alloc),
         count: 0,
     }
 }
 
-fn put(map: &mut BTreeMap<String, u32>, key: String, number: u32) -> Result<(), AllocError>
-    ensures { OnOk result (Updates string_cmp map.old map.new key (Some number)) }
+fn put(map: &mut HashMap<String, u32>, key: String, number: u32) -> Result<(), AllocError>
+    ensures { OnOk result (Updates string_eq map.old map.new key (Some number)) }
 {
     match map.insert(key, number) {
         Ok(_) => Ok(()),
