@@ -1,0 +1,5 @@
+pub mod MarkLaws
+pub mod TextLaws
+pub mod StepLaws
+pub mod PlaceLaws
+pub mod ReadLaws
