@@ -30,20 +30,20 @@ bit_at_behind marks bit k h below =
     bit_at_cat_high (marks % 2 ^ 63) 1 bit (k + 1) (omega (arith, h)) (omega arith)
     ∙ ap (bit_at (marks % 2 ^ 63)) back
     ∙ sym (bit_at_cat_low (marks / 2 ^ 63) 63 (marks % 2 ^ 63) k below)
-    ∙ ap (λ n. bit_at n k) whole
+    ∙ ap (λ (n : ℕ). bit_at n k) whole
 
 pub bit_at_behind_none : (marks k : ℕ) → k < 63 → bit_at (marks % 2 ^ 63 * 2) (k + 1) ≡ bit_at marks k
 bit_at_behind_none marks k below =
     let e : marks % 2 ^ 63 * 2 ≡ marks % 2 ^ 63 * 2 ^ 1 + 0 = omega arith in
-    ap (λ n. bit_at n (k + 1)) e ∙ bit_at_behind marks 0 k (omega arith) below
+    ap (λ (n : ℕ). bit_at n (k + 1)) e ∙ bit_at_behind marks 0 k (omega arith) below
 
 -- the marks at a place, from those behind it
 pub marks_before : (bytes : List ℕ) (at marks behind : ℕ) (first : Bool) → first ≡ begins_text (drop at bytes) → bit_at marks 0 ≡ mark first
     → ((k : ℕ) → k < 63 → bit_at marks (k + 1) ≡ bit_at behind k) → AreMarks bytes (at + 1) behind → AreMarks bytes at marks
 marks_before bytes at marks behind first is front high more zero below =
     let here : at ≡ at + 0 = omega arith in
-    front ∙ ap mark is ∙ ap (λ n. mark (begins_text (drop n bytes))) here
+    front ∙ ap mark is ∙ ap (λ (n : ℕ). mark (begins_text (drop n bytes))) here
 marks_before bytes at marks behind first is front high more (suc k) below =
     let here : at + 1 + k ≡ at + suc k = omega arith in
     let next : suc k ≡ k + 1 = omega arith in
-    ap (bit_at marks) next ∙ high k (omega (arith, below)) ∙ more k (omega (arith, below)) ∙ ap (λ n. mark (begins_text (drop n bytes))) here
+    ap (bit_at marks) next ∙ high k (omega (arith, below)) ∙ more k (omega (arith, below)) ∙ ap (λ (n : ℕ). mark (begins_text (drop n bytes))) here

@@ -16,7 +16,7 @@ use Rattle.strings_heap.specs.Texts.{mark, begins_text, AreMarks}
 pub end_place : (bytes : List ℕ) (place : Place) → place.marks ≡ 0 → place.zero ≡ length bytes → IsPlace bytes (length bytes) place
 end_place bytes place none end = record {
     marks = λ k below.
-        ap (λ n. n / 2 ^ k % 2) none ∙ bit_at-zero k ∙ sym (ap (λ (x : List ℕ). mark (begins_text x)) (drop_all (length bytes + k) bytes (omega arith)));
+        ap (λ (n : ℕ). n / 2 ^ k % 2) none ∙ bit_at-zero k ∙ sym (ap (λ (x : List ℕ). mark (begins_text x)) (drop_all (length bytes + k) bytes (omega arith)));
     zero = end ∙ omega (arith, ap (position_or_len (λ b. b == 0)) (drop_all (length bytes) bytes (omega arith)));
   }
 
@@ -50,7 +50,7 @@ passed_first bytes places place is h = subst (λ (x : List Place). Passed bytes 
     first : (p : ℕ) (d : Place) → p < 1 → IsPlace bytes (min (64 * ((length bytes + 63) / 64 - p)) (length bytes)) (get_or (place ∷ []) p d)
     first zero d below =
         let end : length bytes ≡ min (64 * ((length bytes + 63) / 64 - 0)) (length bytes) = omega arith in
-        subst (λ n. IsPlace bytes n place) end h
+        subst (λ (n : ℕ). IsPlace bytes n place) end h
     first (suc p) d below = absurd (omega (arith, below))
 
 pub passed_more : (bytes : List ℕ) (places more : List Place) (at start : ℕ) (old place : Place) → Passed bytes places at old → 0 < at → start ≡ (at - 1) / 64 * 64
@@ -70,7 +70,7 @@ passed_more bytes places more at start old place h some is here grown = subst (�
         let last : length places ≡ p = omega (arith, below, new_one, length_push places place) in
         let there : start ≡ min (64 * ((length bytes + 63) / 64 - p)) (length bytes) = omega (arith, last, h.count, h.within, is, some) in
         subst (λ (x : Place). IsPlace bytes (min (64 * ((length bytes + 63) / 64 - p)) (length bytes)) x) (sym (get_or_push places place d p last))
-        (subst (λ n. IsPlace bytes n place) there here)
+        (subst (λ (n : ℕ). IsPlace bytes n place) there here)
 
 pub passed_all : (bytes : List ℕ) (places : List Place) (at : ℕ) (place : Place) → Passed bytes places at place → at ≡ 0 → ArePlaces bytes places
 passed_all bytes places at place h none =
@@ -79,7 +79,7 @@ passed_all bytes places at place h none =
       count = count;
       each = λ block d below.
           (let back : 64 * ((length bytes + 63) / 64 - (length places - 1 - block)) ≡ 64 * block = omega (arith, count, below) in
-          subst (λ n. IsPlace bytes (min n (length bytes)) (get_or places (length places - 1 - block) d)) back (h.each (length places - 1 - block) d (omega (arith, below))));
+          subst (λ (n : ℕ). IsPlace bytes (min n (length bytes)) (get_or places (length places - 1 - block) d)) back (h.each (length places - 1 - block) d (omega (arith, below))));
     }
 
 -- ---- the first zero, by a scan of the rest of a block
@@ -104,7 +104,7 @@ skipped (suc n) (b ∷ bytes) l h =
     let test : eqb b 0 ≡ false = h 0 (omega arith) in
     let inner = skipped n bytes (omega (arith, l)) (λ k below. h (suc k) (omega (arith, below))) in
     let more : 1 + position_or_len (λ x. x == 0) bytes ≡ suc n + position_or_len (λ x. x == 0) (drop n bytes) = omega (arith, inner) in
-    ap (λ t. cond (not t) (1 + position_or_len (λ x. x == 0) bytes) 0) test ∙ more
+    ap (λ (t : Bool). cond (not t) (1 + position_or_len (λ x. x == 0) bytes) 0) test ∙ more
 
 pub first_zero-later : (bytes : List ℕ) (at stop : ℕ) → at ≤ stop → stop ≤ length bytes → position (λ b. b == 0) (take (stop - at) (drop at bytes)) ≡ None
     → first_zero bytes stop ≡ first_zero bytes at
@@ -119,7 +119,7 @@ first_zero-later bytes at stop order within none =
     omega (arith, is, ap (position_or_len (λ b. b == 0)) there, order)
   where
     drop_twice : drop (stop - at) (drop at bytes) ≡ drop stop bytes
-    drop_twice = let e : at + (stop - at) ≡ stop = omega (arith, order) in drop-drop (stop - at) at bytes ∙ ap (λ n. drop n bytes) e
+    drop_twice = let e : at + (stop - at) ≡ stop = omega (arith, order) in drop-drop (stop - at) at bytes ∙ ap (λ (n : ℕ). drop n bytes) e
 
 -- ---- the steps of one block
 

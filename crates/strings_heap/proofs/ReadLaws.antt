@@ -16,7 +16,7 @@ text_at-past heap at past = rw (le-ltb at (length heap) past) refl
 
 not_ended : (at : ℕ) (o : Option (List ℕ)) → is_ended_text o ≡ false → ended at o ≡ Err (fault_at HeapText at)
 not_ended at None h = refl
-not_ended at (Some text) h = ap (λ t. cond t (Ok text) (Err (fault_at HeapText at))) h
+not_ended at (Some text) h = ap (λ (t : Bool). cond t (Ok text) (Err (fault_at HeapText at))) h
 
 -- no text begins there
 pub text_at-none : (heap : List ℕ) (at : ℕ) → at < length heap → begins_text (drop at heap) ≡ false → text_at heap at ≡ Err (fault_at HeapText at)
@@ -34,9 +34,9 @@ text_at-some heap at inside h =
     let there = begun (drop at heap) h in
     let stands = until_stands (drop at heap) there.text there.is in
     let size : first_zero heap at - at ≡ length there.text = omega (arith, stands.count) in
-    let same : take (first_zero heap at - at) (drop at heap) ≡ there.text = ap (λ n. take n (drop at heap)) size ∙ stands.front in
+    let same : take (first_zero heap at - at) (drop at heap) ≡ there.text = ap (λ (n : ℕ). take n (drop at heap)) size ∙ stands.front in
     let test : is_utf8 there.text ≡ true = is_utf8-from_IsUtf8 there.text there.utf8 in
-    let found : ended at (until_zero (drop at heap)) ≡ Ok there.text = ap (ended at) there.is ∙ ap (λ t. cond t (Ok there.text) (Err (fault_at HeapText at))) test in
+    let found : ended at (until_zero (drop at heap)) ≡ Ok there.text = ap (ended at) there.is ∙ ap (λ (t : Bool). cond t (Ok there.text) (Err (fault_at HeapText at))) test in
     record {
       order = omega arith;
       within = omega (arith, stands.count, stands.within, length-drop at heap, inside);

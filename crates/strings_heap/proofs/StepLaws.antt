@@ -19,11 +19,11 @@ pub begins_ascii : (bytes : List ℕ) (at behind : ℕ) (here : Bool) → at < l
 begins_ascii bytes at behind here within marks some low e =
     let next : at + 1 + 0 ≡ at + 1 = omega arith in
     same_marks here (begins_text (drop (at + 1 + 0) bytes)) (e ∙ marks 0 (omega arith))
-    ∙ ap (λ n. begins_text (drop n bytes)) next
+    ∙ ap (λ (n : ℕ). begins_text (drop n bytes)) next
     ∙ sym (ap begins_text (drop_more bytes at 0 within) ∙ begins_text-ascii (get_or bytes at 0) (drop (at + 1) bytes) some low)
 
 lead_is : (bytes : List ℕ) (at : ℕ) → get_or (drop at bytes) 0 0 ≡ get_or bytes at 0
-lead_is bytes at = let e : at + 0 ≡ at = omega arith in get_or-drop at bytes 0 0 ∙ ap (λ n. get_or bytes n 0) e
+lead_is bytes at = let e : at + 0 ≡ at = omega arith in get_or-drop at bytes 0 0 ∙ ap (λ (n : ℕ). get_or bytes n 0) e
 
 abbrev Whole : List ℕ → ℕ → Type 0
 Whole tail size = (size ≤ length tail) × IsUtf8 (take size tail)
@@ -36,8 +36,8 @@ begins_wide bytes tail at size behind found here same marks wide is few cases te
     let lead = lead_is bytes at in
     let next : at + 1 + (size - 1) ≡ at + size = omega (arith, is) in
     same_marks here (begins_text (drop (at + 1 + (size - 1)) bytes)) (e ∙ marks (size - 1) (omega (arith, few)))
-    ∙ ap (λ n. begins_text (drop n bytes)) next
-    ∙ sym (begins_text-wide (drop at bytes) size (is ∙ ap (λ n. continuation_len n + 1) (sym lead)) (omega (arith, lead, wide)) whole.0 whole.1 ∙ ap begins_text (drop-drop size at bytes))
+    ∙ ap (λ (n : ℕ). begins_text (drop n bytes)) next
+    ∙ sym (begins_text-wide (drop at bytes) size (is ∙ ap (λ (n : ℕ). continuation_len n + 1) (sym lead)) (omega (arith, lead, wide)) whole.0 whole.1 ∙ ap begins_text (drop-drop size at bytes))
 
 pub begins_none : (bytes tail : List ℕ) (at size : ℕ) (found : Bool) → tail ≡ drop at bytes → 128 ≤ get_or bytes at 0 → size ≡ continuation_len (get_or bytes at 0) + 1
     → MatchBool found ((size ≤ length tail) × IsUtf8 (take size tail)) (¬ ((size ≤ length tail) × IsUtf8 (take size tail))) → found ≡ false → false ≡ begins_text (drop at bytes)
@@ -45,7 +45,7 @@ begins_none bytes tail at size found same wide is cases test =
     let none : ¬ (Whole tail size) = MatchBool-at_false (Whole tail size) (¬ (Whole tail size)) test cases in
     let lead = lead_is bytes at in
     sym (false_from_ne_true (begins_text (drop at bytes)) (λ h.
-        none (subst (λ (x : List ℕ). Whole x size) (sym same) (begins_text-whole (drop at bytes) size (is ∙ ap (λ n. continuation_len n + 1) (sym lead)) (omega (arith, lead, wide)) h))))
+        none (subst (λ (x : List ℕ). Whole x size) (sym same) (begins_text-whole (drop at bytes) size (is ∙ ap (λ (n : ℕ). continuation_len n + 1) (sym lead)) (omega (arith, lead, wide)) h))))
 
 -- ---- by the places
 
@@ -58,4 +58,4 @@ pub begins_marked : (bytes : List ℕ) (places : List Place) (at : ℕ) (place :
 begins_marked bytes places at place here h within e marked =
     let there = place_there bytes places (at / 64) place h (omega (arith, h.count, within)) e in
     let back : min (64 * (at / 64)) (length bytes) + at % 64 ≡ at = omega (arith, within) in
-    same_marks here (begins_text (drop (min (64 * (at / 64)) (length bytes) + at % 64) bytes)) (marked ∙ there.marks (at % 64) (omega arith)) ∙ ap (λ n. begins_text (drop n bytes)) back
+    same_marks here (begins_text (drop (min (64 * (at / 64)) (length bytes) + at % 64) bytes)) (marked ∙ there.marks (at % 64) (omega arith)) ∙ ap (λ (n : ℕ). begins_text (drop n bytes)) back

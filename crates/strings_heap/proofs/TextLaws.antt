@@ -4,7 +4,7 @@ use Rattle.std.specs.List.{prefix_len, position_or_len}
 use Rattle.std.specs.Str.{IsUtf8, is_utf8, continuation_len}
 use Rattle.std.specs.Char.{IsScalar}
 use lib.Utf8.{scalar, scalars, encode, encodes, scalar_cases, low_scalar}
-use Rattle.core.proofs.str.Laws as laws
+use Rattle.std.proofs.str.Laws as laws
 use Rattle.std.proofs.lemmas.Bool.{cases_lt, cases_Bool, and_parts, ne_eqb, eq-eqb, lt-ltb, le-ltb, false_from_ne_true}
 use Rattle.std.proofs.lemmas.Grind.{get_or_default_zero}
 use Rattle.std.proofs.lemmas.List.{nil_from_length, get_or_append_left}
@@ -46,7 +46,7 @@ is_zero b = eqb b 0
 pub position_more : (b : ℕ) (bytes : List ℕ) → 0 < b → position_or_len is_zero (b ∷ bytes) ≡ 1 + position_or_len is_zero bytes
 position_more b bytes some =
     let test : eqb b 0 ≡ false = ne_eqb b 0 (λ e. omega (arith, e, some)) in
-    ap (λ t. cond (not t) (1 + position_or_len is_zero bytes) 0) test
+    ap (λ (t : Bool). cond (not t) (1 + position_or_len is_zero bytes) 0) test
 
 -- the text, by the place of the first zero
 pub record Stands (bytes text : List ℕ) : Type 0 where
@@ -115,16 +115,16 @@ begins_text-ascii b bytes some low =
 size_is : (c : ℕ) (rest : List ℕ) → laws.Shape c → length (encode c) ≡ continuation_len (get_or (encode c ++ rest) 0 0) + 1
 size_is c rest (laws.of1 h e) =
     let test : continuation_len c ≡ 0 = grind arith in
-    ap length e ∙ sym (ap (λ (p : List ℕ). continuation_len (get_or (p ++ rest) 0 0) + 1) e ∙ ap (λ n. n + 1) test)
+    ap length e ∙ sym (ap (λ (p : List ℕ). continuation_len (get_or (p ++ rest) 0 0) + 1) e ∙ ap (λ (n : ℕ). n + 1) test)
 size_is c rest (laws.of2 a b l h f s e) =
     let test : continuation_len a ≡ 1 = grind arith in
-    ap length e ∙ sym (ap (λ (p : List ℕ). continuation_len (get_or (p ++ rest) 0 0) + 1) e ∙ ap (λ n. n + 1) test)
+    ap length e ∙ sym (ap (λ (p : List ℕ). continuation_len (get_or (p ++ rest) 0 0) + 1) e ∙ ap (λ (n : ℕ). n + 1) test)
 size_is c rest (laws.of3 a b d l h f g s e) =
     let test : continuation_len a ≡ 2 = grind arith in
-    ap length e ∙ sym (ap (λ (p : List ℕ). continuation_len (get_or (p ++ rest) 0 0) + 1) e ∙ ap (λ n. n + 1) test)
+    ap length e ∙ sym (ap (λ (p : List ℕ). continuation_len (get_or (p ++ rest) 0 0) + 1) e ∙ ap (λ (n : ℕ). n + 1) test)
 size_is c rest (laws.of4 a b d x l h f g k s e) =
     let test : continuation_len a ≡ 3 = grind arith in
-    ap length e ∙ sym (ap (λ (p : List ℕ). continuation_len (get_or (p ++ rest) 0 0) + 1) e ∙ ap (λ n. n + 1) test)
+    ap length e ∙ sym (ap (λ (p : List ℕ). continuation_len (get_or (p ++ rest) 0 0) + 1) e ∙ ap (λ (n : ℕ). n + 1) test)
 
 -- a text that isn't empty, as its first character and the others
 record First (bytes : List ℕ) : Type 0 where
@@ -159,7 +159,7 @@ begins_text-whole (b ∷ bytes) size is some h =
     let long : 0 < length there.text = omega (arith, stands.count, position_more b bytes some) in
     let lead : get_or there.text 0 0 ≡ b = ap (λ (x : List ℕ). get_or x 0 0) (sym stands.front) ∙ lead_taken b bytes (length there.text) long in
     let first = first_of there.text there.utf8 long in
-    let wide : length (encode first.char) ≡ size = first.size ∙ ap (λ n. continuation_len n + 1) lead ∙ sym is in
+    let wide : length (encode first.char) ≡ size = first.size ∙ ap (λ (n : ℕ). continuation_len n + 1) lead ∙ sym is in
     let fits : size ≤ length there.text = omega (arith, wide, ap length first.split, length-append (encode first.char) first.rest) in
     let front : take size (b ∷ bytes) ≡ encode first.char =
     sym (take-take size (length there.text) (b ∷ bytes) fits) ∙ ap (take size) (stands.front ∙ first.split) ∙ take_at (encode first.char) first.rest size wide in
@@ -177,7 +177,7 @@ begins_text-wide bytes size is wide fits u =
     let long : length front ≡ size = length-take-le size bytes fits in
     let lead : get_or front 0 0 ≡ get_or bytes 0 0 = lead_taken bytes size (omega (arith, is)) in
     let first = first_of front u (omega (arith, long, is)) in
-    let same : length (encode first.char) ≡ size = first.size ∙ ap (λ n. continuation_len n + 1) lead ∙ sym is in
+    let same : length (encode first.char) ≡ size = first.size ∙ ap (λ (n : ℕ). continuation_len n + 1) lead ∙ sym is in
     let alone : first.rest ≡ [] = nil_from_length first.rest (omega (arith, ap length first.split, length-append (encode first.char) first.rest, long, same)) in
     let char : front ≡ encode first.char = first.split ∙ ap (λ (x : List ℕ). encode first.char ++ x) alone ∙ append-nil (encode first.char) in
     let split : bytes ≡ encode first.char ++ drop size bytes = sym (take-append-drop size bytes) ∙ ap (λ (x : List ℕ). x ++ drop size bytes) char in
