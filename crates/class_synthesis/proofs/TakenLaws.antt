@@ -3,7 +3,9 @@ use Rattle.std.proofs.Common.{◌≡◌, ◌⊎◌, ℕ, suc, zero, ◌+◌, ◌
 use Rattle.std.specs.Prelude.{slice_get, unwrap_or, String}
 use Rattle.std.specs.List.{flat_map, list_any}
 use Rattle.std.specs.Str.{bytes_eq}
-use Rattle.std.specs.BTreeSet.{BTreeSet, contains_text}
+use Rattle.std.specs.HashSet.{HashSet, contains_text}
+use Rattle.std.specs.declared.hash.FoldHasher.{FoldHasher}
+use Rattle.std.specs.declared.hash.BuildHasherDefault.{BuildHasherDefault}
 use Rattle.std.specs.declared.alloc.Global.{Global}
 use Rattle.std.proofs.lemmas.Bool.{false≢true}
 use Rattle.std.proofs.lemmas.List.{take_more, map-append, append-nil, append_assoc}
@@ -26,7 +28,7 @@ use Rattle.class_synthesis.specs.Clashes.{ClashesAt, IsTaken, MadeBefore, clash_
 use Rattle.class_synthesis.specs.Taken.{has_text, Holds, Adds, is_taken, names_before}
 
 abbrev Texts : Type 0
-Texts = BTreeSet (String Global)
+Texts = HashSet (String Global) (BuildHasherDefault FoldHasher)
 
 one_or : (b x : Bool) → cond b true x ≡ ((b || false) || x)
 one_or true x = refl

@@ -11,7 +11,7 @@ use made_interfaces::made_by;
 use placed_items::PlacedItem;
 use ranked::earlier;
 use std::alloc::Global;
-use std::collections::BTreeSet;
+use std::collections::HashSet;
 use wr_base::{Code, FullName, Memory, Name, Place, Refusal};
 
 fn refusal(alloc: Global, at: Place, name: &FullName) -> Result<Refusal, Memory>
@@ -27,7 +27,7 @@ fn refusal(alloc: Global, at: Place, name: &FullName) -> Result<Refusal, Memory>
 
 fn clash_of(
     alloc: Global,
-    taken: &BTreeSet<String>,
+    taken: &HashSet<String>,
     at: Place,
     name: &FullName,
 ) -> Result<Option<Refusal>, Memory>
@@ -42,7 +42,7 @@ fn clash_of(
 // The first of these names that is taken.
 fn clash_among(
     alloc: Global,
-    taken: &BTreeSet<String>,
+    taken: &HashSet<String>,
     at: Place,
     names: &[FullName],
 ) -> Result<Option<Refusal>, Memory>
@@ -58,7 +58,7 @@ fn clash_among(
 // The first name that the item makes and that is taken; from here on all that it makes are taken.
 fn clash_at(
     alloc: Global,
-    taken: &mut BTreeSet<String>,
+    taken: &mut HashSet<String>,
     item: &PlacedItem,
 ) -> Result<Option<Refusal>, Memory>
     ensures first { IfOk result (IsFirst (Among (made_by item.now.item) (λ name. Only (IsTrue (is_taken taken.old name)) (clash_entry item.now.places.at name)))) }

@@ -1,19 +1,19 @@
 //! Names that are taken, told apart without regard to ASCII case.
 
 ghost use Rattle.std.specs.Prelude.{◌≡◌, ◌∷◌, [], true, IfOk, OnOk};
-ghost use Rattle.std.specs.BTreeSet.{Updates, contains_text};
-ghost use Rattle.std.specs.String.{string_cmp};
+ghost use Rattle.std.specs.HashSet.{Updates, contains_text};
+ghost use Rattle.std.specs.String.{string_eq};
 ghost use Rattle.placed_items.specs.Items.{written_name, written_names};
 ghost use Rattle.class_synthesis.specs.Taken.{Holds, Adds, is_taken};
 
 use found_table::is_found;
 use placed_items::{PlacedItem, Written};
 use std::alloc::{AllocError, Global};
-use std::collections::BTreeSet;
+use std::collections::HashSet;
 use wr_base::{FullName, lowered};
 
-fn put(taken: &mut BTreeSet<String>, text: String) -> Result<(), AllocError>
-    ensures { OnOk result (Updates string_cmp taken.old taken.new text true) }
+fn put(taken: &mut HashSet<String>, text: String) -> Result<(), AllocError>
+    ensures { OnOk result (Updates string_eq taken.old taken.new text true) }
 {
     match taken.insert(text) {
         Ok(_) => Ok(()),
@@ -21,7 +21,7 @@ fn put(taken: &mut BTreeSet<String>, text: String) -> Result<(), AllocError>
     }
 }
 
-fn mark(alloc: Global, taken: &mut BTreeSet<String>, name: &FullName) -> Result<(), AllocError>
+fn mark(alloc: Global, taken: &mut HashSet<String>, name: &FullName) -> Result<(), AllocError>
     ensures { OnOk result (Adds (name.now ∷ []) taken.old taken.new) }
 {
     let text = lowered(alloc, name.as_str())?;
@@ -31,7 +31,7 @@ fn mark(alloc: Global, taken: &mut BTreeSet<String>, name: &FullName) -> Result<
 /// From here on these names are taken.
 pub(crate) fn mark_all(
     alloc: Global,
-    taken: &mut BTreeSet<String>,
+    taken: &mut HashSet<String>,
     names: &[FullName],
 ) -> Result<(), AllocError>
     ensures { OnOk result (Adds names.now taken.old taken.new) }
@@ -45,7 +45,7 @@ pub(crate) fn mark_all(
 /// Whether a name is taken, or a found type has it.
 pub(crate) fn is_taken(
     alloc: Global,
-    taken: &BTreeSet<String>,
+    taken: &HashSet<String>,
     name: &FullName,
 ) -> Result<bool, AllocError>
     ensures { IfOk result (λ b. b ≡ is_taken taken.now name.now) }
@@ -64,10 +64,10 @@ fn written_name(item: &Written) -> &FullName
 }
 
 /// The names that are declared.
-pub(crate) fn declared(alloc: Global, items: &[PlacedItem]) -> Result<BTreeSet<String>, AllocError>
+pub(crate) fn declared(alloc: Global, items: &[PlacedItem]) -> Result<HashSet<String>, AllocError>
     ensures { IfOk result (λ taken. Holds taken (written_names items.now)) }
 {
-    let mut taken = BTreeSet::new(alloc);
+    let mut taken = HashSet::new(alloc);
     for item in items {
         mark(alloc, &mut taken, written_name(&item.item))?;
     }

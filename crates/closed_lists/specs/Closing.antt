@@ -1,7 +1,7 @@
 -- Lists with all that they lead to, as they are found.
 use Rattle.std.specs.Prelude.{◌≡◌, ◌≤◌, ◌<◌, ◌+◌, ◌⊎◌, ℕ, Bool, true, not, List, ◌++◌, Some, Contains, length, count_by, slice_get}
 use Rattle.std.specs.List.{flat_map}
-use Rattle.std.specs.BTreeSet.{contains_text}
+use Rattle.std.specs.HashSet.{contains_text}
 use Rattle.wr_base.specs.Uses.{text_of}
 use Rattle.wr_base.specs.declared.type_use.TypeUse.{TypeUse}
 use Rattle.wr_base.specs.declared.declaration.Declaration.{Declaration}

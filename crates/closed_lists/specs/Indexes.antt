@@ -2,7 +2,7 @@
 use Rattle.std.specs.Prelude.{◌≡◌, ℕ, suc, Bool, List, [], ◌∷◌, Option, Some, None, map, if◌then◌else◌}
 use Rattle.std.specs.Option.{option_map}
 use Rattle.std.specs.Str.{bytes_eq}
-use Rattle.std.specs.BTreeMap.{BTreeMap, get_by_text}
+use Rattle.std.specs.HashMap.{HashMap, get_by_text}
 use Rattle.std.specs.Prelude.{String}
 use Rattle.std.specs.declared.alloc.Global.{Global}
 use Rattle.wr_base.specs.Declarations.{name_of}
@@ -22,5 +22,5 @@ abbrev pub place_if : Bool → ℕ → Option ℕ
 place_if same place = if same then Some place else None
 
 -- the index tells the first place of each name
-abbrev pub Indexes : BTreeMap (String Global) ℕ → List (List ℕ) → Type 0
+abbrev pub Indexes : {S : Type 0} → HashMap (String Global) ℕ S → List (List ℕ) → Type 0
 Indexes index names = (name : List ℕ) → get_by_text index name ≡ position names name

@@ -1,8 +1,8 @@
 //! Lists with all that they lead to.
 
 ghost use Rattle.std.specs.Prelude.{◌≡◌, ◌∷◌, [], ◌++◌, ◌<◌, true, Some, None, ℕ, List, IfOk, OnOk, map, length, drop, Contains};
-ghost use Rattle.std.specs.BTreeSet.{Updates, contains_text};
-ghost use Rattle.std.specs.String.{string_cmp};
+ghost use Rattle.std.specs.HashSet.{Updates, contains_text};
+ghost use Rattle.std.specs.String.{string_eq};
 ghost use Rattle.std.specs.List.{AllZip};
 ghost use Rattle.std.specs.Vec.Iter.{into_iter_items};
 ghost use Rattle.wr_base.specs.Uses.{text_of};
@@ -16,7 +16,7 @@ use crate::index::{index_of, required};
 use crate::site::PlacedDeclaration;
 use sqlite_items::Items;
 use std::alloc::{AllocError, Global};
-use std::collections::{BTreeMap, BTreeSet};
+use std::collections::{HashMap, HashSet};
 use std::vec::IntoIter;
 use wr_base::{Declaration, TypeUse, Uses};
 
@@ -24,11 +24,11 @@ use wr_base::{Declaration, TypeUse, Uses};
 #[derive(Debug, Drop)]
 pub(crate) struct Gathered {
     pub(crate) uses: Vec<TypeUse>,
-    pub(crate) texts: BTreeSet<String>,
+    pub(crate) texts: HashSet<String>,
 }
 
-fn mark(texts: &mut BTreeSet<String>, text: String) -> Result<(), AllocError>
-    ensures { OnOk result (Updates string_cmp texts.old texts.new text true) }
+fn mark(texts: &mut HashSet<String>, text: String) -> Result<(), AllocError>
+    ensures { OnOk result (Updates string_eq texts.old texts.new text true) }
 {
     match texts.insert(text) {
         Ok(_) => Ok(()),
@@ -43,7 +43,7 @@ impl Gathered {
     {
         Gathered {
             uses: Vec::new(alloc),
-            texts: BTreeSet::new(alloc),
+            texts: HashSet::new(alloc),
         }
     }
 
@@ -79,7 +79,7 @@ fn meet_all(alloc: Global, gathered: &mut Gathered, uses: &[TypeUse]) -> Result<
 fn closure(
     alloc: Global,
     sites: &[PlacedDeclaration],
-    index: &BTreeMap<String, usize>,
+    index: &HashMap<String, usize>,
     list: &[TypeUse],
 ) -> Result<Vec<TypeUse>, AllocError>
     requires { Indexes index.now (names_in sites.now) }
@@ -99,7 +99,7 @@ fn closure(
 fn follow(
     alloc: Global,
     sites: &[PlacedDeclaration],
-    index: &BTreeMap<String, usize>,
+    index: &HashMap<String, usize>,
     gathered: &mut Gathered,
     at: usize,
 ) -> Result<(), AllocError>
@@ -135,7 +135,7 @@ fn set_list(declaration: &mut Declaration, whole: Uses)
 fn closed_list(
     alloc: Global,
     sites: &[PlacedDeclaration],
-    index: &BTreeMap<String, usize>,
+    index: &HashMap<String, usize>,
     declaration: &Declaration,
 ) -> Result<Uses, AllocError>
     requires { Indexes index.now (names_in sites.now) }

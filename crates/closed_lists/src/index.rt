@@ -2,8 +2,8 @@
 
 ghost use Rattle.std.specs.Prelude.{◌≡◌, ◌∷◌, [], ◌<◌, ◌^◌, Some, None, ℕ, List, IfOk, OnOk, map, length, slice_get, string_bytes};
 ghost use Rattle.wr_base.specs.Declarations.{declared_as};
-ghost use Rattle.std.specs.BTreeMap.{Updates, get_by_text};
-ghost use Rattle.std.specs.String.{string_cmp};
+ghost use Rattle.std.specs.HashMap.{Updates, get_by_text};
+ghost use Rattle.std.specs.String.{string_eq};
 ghost use Rattle.wr_rules.specs.Closures.{required_at, requires_of};
 ghost use Rattle.std.specs.Option.{option_or, option_copied};
 ghost use Rattle.std.specs.Str.{bytes_eq};
@@ -12,11 +12,11 @@ ghost use Rattle.closed_lists.specs.Views.{decls_in};
 
 use crate::site::PlacedDeclaration;
 use std::alloc::{AllocError, Global};
-use std::collections::BTreeMap;
+use std::collections::HashMap;
 use wr_base::{Declaration, TypeUse};
 
-fn put(index: &mut BTreeMap<String, usize>, name: String, place: usize) -> Result<(), AllocError>
-    ensures { OnOk result (Updates string_cmp index.old index.new name (Some place)) }
+fn put(index: &mut HashMap<String, usize>, name: String, place: usize) -> Result<(), AllocError>
+    ensures { OnOk result (Updates string_eq index.old index.new name (Some place)) }
 {
     match index.insert(name, place) {
         Ok(_) => Ok(()),
@@ -24,7 +24,7 @@ fn put(index: &mut BTreeMap<String, usize>, name: String, place: usize) -> Resul
     }
 }
 
-fn place_of(index: &BTreeMap<String, usize>, name: &str) -> Option<usize>
+fn place_of(index: &HashMap<String, usize>, name: &str) -> Option<usize>
     ensures { result ≡ get_by_text index.now name.now }
 {
     match index.get(name) {
@@ -36,7 +36,7 @@ fn place_of(index: &BTreeMap<String, usize>, name: &str) -> Option<usize>
 // The first of one name stays.
 fn add(
     alloc: Global,
-    index: &mut BTreeMap<String, usize>,
+    index: &mut HashMap<String, usize>,
     name: &str,
     place: usize,
 ) -> Result<(), AllocError>
@@ -52,10 +52,10 @@ fn add(
 pub(crate) fn index_of(
     alloc: Global,
     sites: &[PlacedDeclaration],
-) -> Result<BTreeMap<String, usize>, AllocError>
+) -> Result<HashMap<String, usize>, AllocError>
     ensures { IfOk result (λ index. Indexes index (names_in sites.now)) }
 {
-    let mut index = BTreeMap::new(alloc);
+    let mut index = HashMap::new(alloc);
     for i in 0..sites.len() {
         add(alloc, &mut index, sites[i].declaration.name().as_str(), i)?;
     }
@@ -73,7 +73,7 @@ fn declaration_at(sites: &[PlacedDeclaration], place: usize) -> Option<&Declarat
 
 fn find<'a>(
     sites: &'a [PlacedDeclaration],
-    index: &BTreeMap<String, usize>,
+    index: &HashMap<String, usize>,
     name: &str,
 ) -> Option<&'a Declaration>
     requires { Indexes index.now (names_in sites.now) }
@@ -97,7 +97,7 @@ fn requires_of(declaration: &Declaration) -> &[TypeUse]
 /// What an interface requires as it is listed, by its text.
 pub(crate) fn required<'a>(
     sites: &'a [PlacedDeclaration],
-    index: &BTreeMap<String, usize>,
+    index: &HashMap<String, usize>,
     text: &str,
 ) -> &'a [TypeUse]
     requires { Indexes index.now (names_in sites.now) }

@@ -1,5 +1,5 @@
 -- Ids that were met, text by text.
-use Rattle.std.proofs.Common.{◌≡◌, ◌≢◌, ◌⊎◌, ⊎_elim, inl, inr, ◌↔◌, ◌<◌, ◌≤◌, ◌+◌, ◌==◌, ℕ, zero, suc, Bool, true, false, ◌||◌, cond, IsTrue, List, [], ◌∷◌, ◌++◌, Option, Some, None, Contains, length, take, get_or, slice_get, refl, sym, ap, subst, String, string_bytes, ◌∙◌, arith, true≢false}
+use Rattle.std.proofs.Common.{◌≡◌, ◌≢◌, ◌⊎◌, ⊎_elim, inl, inr, ◌↔◌, ◌<◌, ◌≤◌, ◌+◌, ◌==◌, ℕ, zero, suc, Bool, true, false, ◌||◌, cond, IsTrue, List, [], ◌∷◌, ◌++◌, Option, Some, None, Contains, length, take, get_or, slice_get, refl, sym, ap, subst, String, string_bytes, ◌∙◌, arith, true≢false, nat_eq}
 use Rattle.std.specs.List.{list_any}
 use Rattle.std.specs.Str.{bytes_eq}
 use Rattle.std.specs.Option.{is_some, option_flatten}
@@ -10,16 +10,13 @@ use Rattle.std.proofs.lemmas.Option.{none-some, same_Some, slice_get_within}
 use Rattle.std.proofs.lemmas.List.{take_more}
 use Rattle.std.proofs.lemmas.List.Folds.{list_any-append}
 use Rattle.std.proofs.lemmas.List.Elements.{Contains-append_left, Contains-append_right, Contains-append_cases}
-use Rattle.std.specs.Ordering.{nat_cmp, eq_by_cmp}
-use Rattle.std.specs.Cmp.{unsigned_tied}
-use Rattle.std.specs.BTreeMap.{BTreeMap}
-use Rattle.std.specs.BTreeSet.{BTreeSet, contains}
+use Rattle.std.specs.HashSet.{contains}
 use Rattle.std.specs.declared.alloc.Global.{Global}
 use Rattle.wr_rules.specs.NameRules.{reserved_ids}
-use Rattle.id_table.specs.Taken.{owner}
+use Rattle.id_table.specs.Taken.{Owners, owner}
 use Rattle.id_rules.specs.Reserved.{OwnsReserved}
 use Rattle.place_order.proofs.StandLaws.{get_there}
-use Rattle.id_clash.specs.Items.{Meets, One, new_id, Fresh, AddsTexts, is_had, texts_in}
+use Rattle.id_clash.specs.Items.{Ids, Meets, One, new_id, Fresh, AddsTexts, is_had, texts_in}
 
 pub or_cases : (a b : Bool) → (a || b) ≡ true → (a ≡ true) ⊎ (b ≡ true)
 or_cases true b h = inl refl
@@ -81,13 +78,13 @@ move false true false = refl
 move false false true = refl
 move false false false = refl
 
-pub had_more : (reserved : BTreeMap ℕ ℕ) (old new : BTreeSet ℕ) (id : ℕ) → ((q : ℕ) → contains nat_cmp new q ≡ cond (eq_by_cmp nat_cmp id q) true (contains nat_cmp old q)) → (q : ℕ) → is_had reserved new q ≡ (is_had reserved old q || (id == q))
+pub had_more : (reserved : Owners) (old new : Ids) (id : ℕ) → ((q : ℕ) → contains nat_eq new q ≡ cond (nat_eq id q) true (contains nat_eq old q)) → (q : ℕ) → is_had reserved new q ≡ (is_had reserved old q || (id == q))
 had_more reserved old new id u q =
-    ap (λ b. is_some (owner reserved q) || b) (u q ∙ ap (λ b. cond b true (contains nat_cmp old q)) (unsigned_tied id q)) ∙ move (is_some (owner reserved q)) (contains nat_cmp old q) (id == q)
+    ap (λ b. is_some (owner reserved q) || b) (u q) ∙ move (is_some (owner reserved q)) (contains nat_eq old q) (id == q)
 
 -- none was met
-pub had_reserved : (reserved : BTreeMap ℕ ℕ) (met : BTreeSet ℕ) → OwnsReserved (owner reserved) → ((id : ℕ) → contains nat_cmp met id ≡ false) → (id : ℕ) → IsTrue (is_had reserved met id) ↔ Contains reserved_ids id
-had_reserved reserved met o n id = (λ h. to (owner reserved id) refl (sym (ap (λ b. is_some (owner reserved id) || b) (n id) ∙ or_false (is_some (owner reserved id))) ∙ h), λ c. left_or (is_some (owner reserved id)) (contains nat_cmp met id) (ap is_some ((o id 4294967295).1 (refl, c))))
+pub had_reserved : (reserved : Owners) (met : Ids) → OwnsReserved (owner reserved) → ((id : ℕ) → contains nat_eq met id ≡ false) → (id : ℕ) → IsTrue (is_had reserved met id) ↔ Contains reserved_ids id
+had_reserved reserved met o n id = (λ h. to (owner reserved id) refl (sym (ap (λ b. is_some (owner reserved id) || b) (n id) ∙ or_false (is_some (owner reserved id))) ∙ h), λ c. left_or (is_some (owner reserved id)) (contains nat_eq met id) (ap is_some ((o id 4294967295).1 (refl, c))))
   where
     to : (w : Option ℕ) → owner reserved id ≡ w → is_some (owner reserved id) ≡ true → Contains reserved_ids id
     to None e h = absurd (false≢true (sym (ap is_some e) ∙ h))
@@ -168,16 +165,16 @@ only_one text t (suc k, l, e) = absurd (omega (arith, l))
 pub adds_none : (met : List ℕ → Bool) → AddsTexts [] met met
 adds_none met q = sym (or_false (met q))
 
-abbrev Ids : Type 0
-Ids = List ℕ → Option (Option ℕ)
+abbrev Table : Type 0
+Table = List ℕ → Option (Option ℕ)
 
-no_id : (met : List ℕ → Bool) (ids : Ids) (t : List ℕ) (i : ℕ) → new_id met ids t ≡ Some i → met t ≡ false
+no_id : (met : List ℕ → Bool) (ids : Table) (t : List ℕ) (i : ℕ) → new_id met ids t ≡ Some i → met t ≡ false
 no_id met ids t i h = ⊎_elim (λ m. absurd (none-some i (sym (ap (λ b. cond b None (option_flatten (ids t))) m) ∙ h))) (λ m. m) (cases_Bool (met t))
 
-same_id : (met now : List ℕ → Bool) (ids : Ids) (t : List ℕ) → met t ≡ now t → new_id met ids t ≡ new_id now ids t
+same_id : (met now : List ℕ → Bool) (ids : Table) (t : List ℕ) → met t ≡ now t → new_id met ids t ≡ new_id now ids t
 same_id met now ids t e = ap (λ b. cond b None (option_flatten (ids t))) e
 
-module _ (met now : List ℕ → Bool) (ids : Ids) (texts : List (List ℕ)) (m : ℕ) (text : List ℕ) (at : slice_get texts m ≡ Some text) (adds : AddsTexts (take m texts) met now) where
+module _ (met now : List ℕ → Bool) (ids : Table) (texts : List (List ℕ)) (m : ℕ) (text : List ℕ) (at : slice_get texts m ≡ Some text) (adds : AddsTexts (take m texts) met now) where
   more : take (m + 1) texts ≡ take m texts ++ text ∷ []
   more = take_more texts m text (slice_get_within texts m text at) ∙ ap (λ t. take m texts ++ t ∷ []) (get_there texts m text text at)
 
@@ -215,11 +212,11 @@ module _ (met now : List ℕ → Bool) (ids : Ids) (texts : List (List ℕ)) (m 
       a q ∙ ap (λ b. b || (bytes_eq text q || false)) (adds q) ∙ or_or (met q) (has_text (take m texts) q) (bytes_eq text q || false)
       ∙ ap (λ b. met q || b) (sym (ap (λ xs. has_text xs q) more ∙ list_any-append (λ t. bytes_eq t q) (take m texts) (text ∷ [])))
 
-nothing_fresh : (met : List ℕ → Bool) (ids : Ids) (texts : List (List ℕ)) (t : List ℕ) (i : ℕ) → Fresh met ids (take 0 texts) t i → ⊥
+nothing_fresh : (met : List ℕ → Bool) (ids : Table) (texts : List (List ℕ)) (t : List ℕ) (i : ℕ) → Fresh met ids (take 0 texts) t i → ⊥
 nothing_fresh met ids [] t i ((k, l, e), n) = omega (arith, l)
 nothing_fresh met ids (x ∷ xs) t i ((k, l, e), n) = omega (arith, l)
 
-pub fresh_none : (met : List ℕ → Bool) (ids : Ids) (texts : List (List ℕ)) (old : ℕ → Bool) → Meets (Fresh met ids (take 0 texts)) old old false
+pub fresh_none : (met : List ℕ → Bool) (ids : Table) (texts : List (List ℕ)) (old : ℕ → Bool) → Meets (Fresh met ids (take 0 texts)) old old false
 fresh_none met ids texts old = meets_none (Fresh met ids (take 0 texts)) old (nothing_fresh met ids texts)
 
 pub adds_no : (met : List ℕ → Bool) (texts : List (List ℕ)) → AddsTexts (take 0 texts) met met

@@ -1,22 +1,26 @@
 -- Texts with their ids, and which of the ids were had already.
-use Rattle.std.specs.Prelude.{◌≡◌, ◌≢◌, ◌⊎◌, ◌↔◌, ◌||◌, ℕ, Bool, IsTrue, List, ◌++◌, Option, Some, None, Contains, String, map, string_bytes, if◌then◌else◌}
+use Rattle.std.specs.Prelude.{◌≡◌, ◌≢◌, ◌⊎◌, ◌↔◌, ◌||◌, ℕ, Bool, IsTrue, List, ◌++◌, Option, Some, None, Contains, String, map, nat_eq, string_bytes, if◌then◌else◌}
 use Rattle.std.specs.List.{list_any}
 use Rattle.std.specs.Option.{is_some, option_flatten}
 use Rattle.std.specs.Str.{bytes_eq}
-use Rattle.std.specs.Ordering.{nat_cmp}
-use Rattle.std.specs.BTreeMap.{BTreeMap}
-use Rattle.std.specs.BTreeSet.{BTreeSet, contains}
+use Rattle.std.specs.HashSet.{HashSet, contains}
+use Rattle.std.specs.declared.hash.FoldHasher.{FoldHasher}
+use Rattle.std.specs.declared.hash.BuildHasherDefault.{BuildHasherDefault}
 use Rattle.std.specs.declared.alloc.Global.{Global}
 use Rattle.wr_base.specs.Trees.{UseTree, text_of_tree}
 use Rattle.wr_rules.specs.Kinds.{declared}
 use Rattle.wr_rules.specs.Sites.{Site, site_name}
 use Rattle.wr_rules.specs.Signatures.{own_id}
 use Rattle.wr_rules.specs.NameRules.{instances_at}
-use Rattle.id_table.specs.Taken.{owner}
+use Rattle.id_table.specs.Taken.{Owners, owner}
+
+-- ids that were met
+abbrev pub Ids : Type 0
+Ids = HashSet ℕ (BuildHasherDefault FoldHasher)
 
 -- the id is reserved, or was met
-abbrev pub is_had : BTreeMap ℕ ℕ → BTreeSet ℕ → ℕ → Bool
-is_had reserved met id = is_some (owner reserved id) || contains nat_cmp met id
+abbrev pub is_had : Owners → Ids → ℕ → Bool
+is_had reserved met id = is_some (owner reserved id) || contains nat_eq met id
 
 -- the ids of these texts were met, and told is whether one of them was had before or is another one's of these texts too
 pub record Meets (items : List ℕ → ℕ → Type 0) (old : ℕ → Bool) (new : ℕ → Bool) (told : Bool) : Type 0 where

@@ -1,9 +1,8 @@
 //! Ids and texts that were met so far, and what a declaration adds to them.
 
-ghost use Rattle.std.specs.Prelude.{◌≡◌, ◌≢◌, ◌⊎◌, ◌↔◌, ◌||◌, ◌==◌, ◌∷◌, [], ℕ, List, Some, None, true, false, IsTrue, IfOk, OnOk};
-ghost use Rattle.std.specs.Ordering.{nat_cmp};
-ghost use Rattle.std.specs.BTreeMap.{get_by_text};
-ghost use Rattle.std.specs.BTreeSet.{Updates, contains, contains_text};
+ghost use Rattle.std.specs.Prelude.{◌≡◌, ◌≢◌, ◌⊎◌, ◌↔◌, ◌||◌, ◌==◌, ◌∷◌, [], ℕ, List, Some, None, true, false, IsTrue, IfOk, OnOk, nat_eq};
+ghost use Rattle.std.specs.HashMap.{get_by_text};
+ghost use Rattle.std.specs.HashSet.{Updates, contains, contains_text};
 ghost use Rattle.wr_base.specs.Paths.{is_path};
 ghost use Rattle.wr_rules.specs.Kinds.{declared};
 ghost use Rattle.wr_rules.specs.Sites.{site_name};
@@ -16,29 +15,29 @@ use crate::texts::texts_at;
 use namespace_rules::add_text;
 use placed_sites::Site;
 use std::alloc::{AllocError, Global};
-use std::collections::{BTreeMap, BTreeSet};
+use std::collections::{HashMap, HashSet};
 use wr_base::{Declaration, FullName};
 
 /// The ids that declarations and instances have that were met so far, and the texts of these instances.
 #[derive(Debug, Drop)]
 pub(crate) struct Met {
-    pub(crate) ids: BTreeSet<u128>,
-    pub(crate) texts: BTreeSet<String>,
+    pub(crate) ids: HashSet<u128>,
+    pub(crate) texts: HashSet<String>,
 }
 
 /// Nothing was met.
 pub(crate) fn nothing_met(alloc: Global) -> Met
-    ensures ids { (id : ℕ) → contains nat_cmp result.ids id ≡ false }
+    ensures ids { (id : ℕ) → contains nat_eq result.ids id ≡ false }
     ensures texts { (text : List ℕ) → contains_text result.texts text ≡ false }
 {
     Met {
-        ids: BTreeSet::new(alloc),
-        texts: BTreeSet::new(alloc),
+        ids: HashSet::new(alloc),
+        texts: HashSet::new(alloc),
     }
 }
 
-fn put_id(ids: &mut BTreeSet<u128>, id: u128) -> Result<(), AllocError>
-    ensures { OnOk result (Updates nat_cmp ids.old ids.new id true) }
+fn put_id(ids: &mut HashSet<u128>, id: u128) -> Result<(), AllocError>
+    ensures { OnOk result (Updates nat_eq ids.old ids.new id true) }
 {
     match ids.insert(id) {
         Ok(_) => Ok(()),
@@ -46,7 +45,7 @@ fn put_id(ids: &mut BTreeSet<u128>, id: u128) -> Result<(), AllocError>
     }
 }
 
-fn is_had(reserved: &BTreeMap<u128, u32>, ids: &BTreeSet<u128>, id: u128) -> bool
+fn is_had(reserved: &HashMap<u128, u32>, ids: &HashSet<u128>, id: u128) -> bool
     ensures { result ≡ said.is_had reserved.now ids.now id }
 {
     reserved.contains_key(&id) || ids.contains(&id)
@@ -54,8 +53,8 @@ fn is_had(reserved: &BTreeMap<u128, u32>, ids: &BTreeSet<u128>, id: u128) -> boo
 
 // Whether the id is had; from here on it is.
 fn meet_id(
-    reserved: &BTreeMap<u128, u32>,
-    ids: &mut BTreeSet<u128>,
+    reserved: &HashMap<u128, u32>,
+    ids: &mut HashSet<u128>,
     id: u128,
 ) -> Result<bool, AllocError>
     ensures { IfOk result (λ told. (text : List ℕ) → Meets (One text (Some id)) (is_had reserved.now ids.old) (is_had reserved.now ids.new) told) }
@@ -66,8 +65,8 @@ fn meet_id(
 }
 
 fn meet_optional(
-    reserved: &BTreeMap<u128, u32>,
-    ids: &mut BTreeSet<u128>,
+    reserved: &HashMap<u128, u32>,
+    ids: &mut HashSet<u128>,
     id: Option<u128>,
 ) -> Result<bool, AllocError>
     ensures { IfOk result (λ told. (text : List ℕ) → Meets (One text id) (is_had reserved.now ids.old) (is_had reserved.now ids.new) told) }
@@ -79,11 +78,7 @@ fn meet_optional(
 }
 
 // The id of a text that wasn't met, where it has one.
-fn new_id(
-    met: &BTreeSet<String>,
-    table: &BTreeMap<String, Option<u128>>,
-    text: &str,
-) -> Option<u128>
+fn new_id(met: &HashSet<String>, table: &HashMap<String, Option<u128>>, text: &str) -> Option<u128>
     ensures { result ≡ said.new_id (contains_text met.now) (get_by_text table.now) text.now }
 {
     if met.contains(text) {
@@ -97,8 +92,8 @@ fn new_id(
 
 fn meet_text(
     alloc: Global,
-    table: &BTreeMap<String, Option<u128>>,
-    reserved: &BTreeMap<u128, u32>,
+    table: &HashMap<String, Option<u128>>,
+    reserved: &HashMap<u128, u32>,
     met: &mut Met,
     text: &str,
 ) -> Result<bool, AllocError>
@@ -119,8 +114,8 @@ fn either(a: bool, b: bool) -> bool
 
 fn meet_texts(
     alloc: Global,
-    table: &BTreeMap<String, Option<u128>>,
-    reserved: &BTreeMap<u128, u32>,
+    table: &HashMap<String, Option<u128>>,
+    reserved: &HashMap<u128, u32>,
     met: &mut Met,
     texts: &[String],
 ) -> Result<bool, AllocError>
@@ -150,8 +145,8 @@ fn own_id(declaration: &Declaration) -> Option<u128>
 /// that it is the first to use. From here on these are met.
 pub(crate) fn meet(
     alloc: Global,
-    table: &BTreeMap<String, Option<u128>>,
-    reserved: &BTreeMap<u128, u32>,
+    table: &HashMap<String, Option<u128>>,
+    reserved: &HashMap<u128, u32>,
     met: &mut Met,
     site: &Site,
 ) -> Result<bool, AllocError>

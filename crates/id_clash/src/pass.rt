@@ -1,9 +1,8 @@
 //! The pass over declarations in the order of their places, with the ids and texts that were met so far.
 
-ghost use Rattle.std.specs.Prelude.{◌≡◌, ◌<◌, ℕ, List, IsTrue, IfOk, length, false};
-ghost use Rattle.std.specs.Ordering.{nat_cmp};
-ghost use Rattle.std.specs.BTreeMap.{get_by_text};
-ghost use Rattle.std.specs.BTreeSet.{contains, contains_text};
+ghost use Rattle.std.specs.Prelude.{◌≡◌, ◌<◌, ℕ, List, IsTrue, IfOk, length, false, nat_eq};
+ghost use Rattle.std.specs.HashMap.{get_by_text};
+ghost use Rattle.std.specs.HashSet.{contains, contains_text};
 ghost use Rattle.ranked.specs.First.{IsFirst};
 ghost use Rattle.wr_base.specs.Paths.{is_path};
 ghost use Rattle.wr_base.specs.Declarations.{IsInOrder};
@@ -23,7 +22,7 @@ use place_order::{Stand, in_place_order};
 use placed_sites::{Site, refuse_if};
 use ranked::earlier;
 use std::alloc::{AllocError, Global};
-use std::collections::BTreeMap;
+use std::collections::HashMap;
 use wr_base::{Code, PlacedTypes, Refusal, Types};
 
 // The name of a declaration is a path.
@@ -43,15 +42,15 @@ fn first_in_order(
     alloc: Global,
     types: &PlacedTypes,
     stands: &[Stand],
-    table: &BTreeMap<String, Option<u128>>,
-    reserved: &BTreeMap<u128, u32>,
+    table: &HashMap<String, Option<u128>>,
+    reserved: &HashMap<u128, u32>,
     met: &mut Met,
 ) -> Result<Option<Refusal>, AllocError>
     requires in_order { IsInOrder types.now.types }
     requires order { IsPlaceOrder (sites_of types.now.types types.now.places) stands.now }
     requires table { (text : List ℕ) → get_by_text table.now text ≡ first_id types.now.types (instances_in (sites_of types.now.types types.now.places)) text }
     requires reserved { OwnsReserved (owner reserved.now) }
-    requires no_ids { (id : ℕ) → contains nat_cmp met.old.ids id ≡ false }
+    requires no_ids { (id : ℕ) → contains nat_eq met.old.ids id ≡ false }
     requires no_texts { (text : List ℕ) → contains_text met.old.texts text ≡ false }
     ensures { IfOk result (IsFirst (IsDuplicateId types.now.types (sites_of types.now.types types.now.places))) }
 {
@@ -75,8 +74,8 @@ fn in_order(types: &Types)
 fn first_by(
     alloc: Global,
     types: &PlacedTypes,
-    table: &BTreeMap<String, Option<u128>>,
-    reserved: &BTreeMap<u128, u32>,
+    table: &HashMap<String, Option<u128>>,
+    reserved: &HashMap<u128, u32>,
 ) -> Result<Option<Refusal>, AllocError>
     requires table { (text : List ℕ) → get_by_text table.now text ≡ first_id types.now.types (instances_in (sites_of types.now.types types.now.places)) text }
     requires reserved { OwnsReserved (owner reserved.now) }

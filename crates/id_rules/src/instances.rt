@@ -2,7 +2,7 @@
 
 ghost use Rattle.std.specs.Prelude.{◌≡◌, ◌≤◌, ℕ, List, map, length, IfOk, OnOk};
 ghost use Rattle.std.specs.List.{flat_map};
-ghost use Rattle.std.specs.BTreeMap.{get_by_text};
+ghost use Rattle.std.specs.HashMap.{get_by_text};
 ghost use Rattle.wr_base.specs.Trees.{tree_of, instance, uses_of};
 ghost use Rattle.wr_rules.specs.Sites.{sites_of};
 ghost use Rattle.wr_rules.specs.Uses as uses;
@@ -16,13 +16,13 @@ use placed_sites::Site;
 use site_uses::{Shape, Used, uses_at};
 use sqlite_items::Items;
 use std::alloc::{AllocError, Global};
-use std::collections::BTreeMap;
+use std::collections::HashMap;
 use wr_base::{FullName, PlacedTypes, TypeUse, Types, Uses};
 
 fn add_use(
     alloc: Global,
     types: &Types,
-    table: &mut BTreeMap<String, Option<u128>>,
+    table: &mut HashMap<String, Option<u128>>,
     ty: &TypeUse,
 ) -> Result<(), AllocError>
     ensures { OnOk result (Adds types.now (instances_within (tree_of ty.now)) (get_by_text table.old) (get_by_text table.new)) }
@@ -67,7 +67,7 @@ pub fn instance_of(
 fn add_shape(
     alloc: Global,
     types: &Types,
-    table: &mut BTreeMap<String, Option<u128>>,
+    table: &mut HashMap<String, Option<u128>>,
     shape: &Shape,
 ) -> Result<(), AllocError>
     ensures { OnOk result (Adds types.now (instances_within (shape_view shape.now)) (get_by_text table.old) (get_by_text table.new)) }
@@ -86,7 +86,7 @@ fn add_shape(
 fn add_used<'a>(
     alloc: Global,
     types: &Types,
-    table: &mut BTreeMap<String, Option<u128>>,
+    table: &mut HashMap<String, Option<u128>>,
     used: &[Used<'a>],
 ) -> Result<(), AllocError>
     ensures { OnOk result (Adds types.now (flat_map (λ (u : uses.Used). instances_within u.use_) (map used_view used.now)) (get_by_text table.old) (get_by_text table.new)) }
@@ -100,7 +100,7 @@ fn add_used<'a>(
 fn add_site(
     alloc: Global,
     types: &Types,
-    table: &mut BTreeMap<String, Option<u128>>,
+    table: &mut HashMap<String, Option<u128>>,
     site: &Site,
 ) -> Result<(), AllocError>
     ensures { OnOk result (Adds types.now (instances_at (site_view site.now)) (get_by_text table.old) (get_by_text table.new)) }
@@ -129,7 +129,7 @@ fn site_count(types: &PlacedTypes) -> u32
 pub fn instance_ids(
     alloc: Global,
     types: &PlacedTypes,
-) -> Result<BTreeMap<String, Option<u128>>, AllocError>
+) -> Result<HashMap<String, Option<u128>>, AllocError>
     ensures { IfOk result (λ table. (text : List ℕ) → get_by_text table text ≡ first_id types.now.types (instances_in (sites_of types.now.types types.now.places)) text) }
 {
     let mut table = no_ids(alloc);

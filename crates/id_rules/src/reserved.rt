@@ -1,14 +1,13 @@
 //! The ids that neither a declaration nor an instance may have.
 
-ghost use Rattle.std.specs.Prelude.{◌≡◌, ◌<◌, ℕ, Some, None, IfOk, OnOk, slice_get};
-ghost use Rattle.std.specs.Ordering.{nat_cmp};
-ghost use Rattle.std.specs.BTreeMap.{Updates};
+ghost use Rattle.std.specs.Prelude.{◌≡◌, ◌<◌, ℕ, Some, None, IfOk, OnOk, slice_get, nat_eq};
+ghost use Rattle.std.specs.HashMap.{Updates};
 ghost use Rattle.wr_rules.specs.NameRules.{reserved_ids};
 ghost use Rattle.id_table.specs.Taken.{owner};
 ghost use Rattle.id_rules.specs.Reserved.{OwnsReserved};
 
 use std::alloc::{AllocError, Global};
-use std::collections::BTreeMap;
+use std::collections::HashMap;
 
 // IUnknown, IInspectable and IActivationFactory, then the found types.
 fn reserved_at(i: u32) -> u128
@@ -27,14 +26,14 @@ fn reserved_at(i: u32) -> u128
     }
 }
 
-fn no_owners(alloc: Global) -> BTreeMap<u128, u32>
+fn no_owners(alloc: Global) -> HashMap<u128, u32>
     ensures { (id : ℕ) → owner result id ≡ None }
 {
-    BTreeMap::new(alloc)
+    HashMap::new(alloc)
 }
 
-fn put_reserved(owners: &mut BTreeMap<u128, u32>, id: u128) -> Result<(), AllocError>
-    ensures { OnOk result (Updates nat_cmp owners.old owners.new id (Some 4294967295)) }
+fn put_reserved(owners: &mut HashMap<u128, u32>, id: u128) -> Result<(), AllocError>
+    ensures { OnOk result (Updates nat_eq owners.old owners.new id (Some 4294967295)) }
 {
     match owners.insert(id, u32::MAX) {
         Ok(_) => Ok(()),
@@ -43,7 +42,7 @@ fn put_reserved(owners: &mut BTreeMap<u128, u32>, id: u128) -> Result<(), AllocE
 }
 
 /// The ids that neither a declaration nor an instance may have, under `u32::MAX`, which is the number of no text.
-pub fn reserved_owners(alloc: Global) -> Result<BTreeMap<u128, u32>, AllocError>
+pub fn reserved_owners(alloc: Global) -> Result<HashMap<u128, u32>, AllocError>
     ensures { IfOk result (λ owners. OwnsReserved (owner owners)) }
 {
     let mut owners = no_owners(alloc);

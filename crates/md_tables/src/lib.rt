@@ -14,6 +14,8 @@ mod view;
 mod writable;
 mod write;
 
+pub use bits::{bit_count, has_bit};
+pub use numbers::place;
 pub use read::read_tables;
 pub use set::TableSet;
 pub use view::TableView;

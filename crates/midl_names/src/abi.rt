@@ -8,7 +8,7 @@ ghost use Rattle.placed_items.specs.Named.{IsNamedMember};
 ghost use Rattle.midl_names.specs.Members.{abi_name, told_count, noted, with_abi, named_from};
 
 use std::alloc::Global;
-use std::collections::BTreeMap;
+use std::collections::HashMap;
 use wr_base::{Member, Memory, Name};
 
 fn abi_name(alloc: Global, name: &Name, count: usize) -> Result<Name, Memory>
@@ -38,7 +38,7 @@ fn set_abi(alloc: Global, member: &mut Member, count: usize) -> Result<(), Memor
     }
 }
 
-fn count_in(counts: &BTreeMap<String, usize>, name: &Name) -> usize
+fn count_in(counts: &HashMap<String, usize>, name: &Name) -> usize
     ensures { result ≡ count_at counts.now name.now }
 {
     match counts.get(name.as_str()) {
@@ -47,7 +47,7 @@ fn count_in(counts: &BTreeMap<String, usize>, name: &Name) -> usize
     }
 }
 
-fn count_of(counts: &BTreeMap<String, usize>, member: &Member) -> usize
+fn count_of(counts: &HashMap<String, usize>, member: &Member) -> usize
     ensures { result ≡ told_count (count_at counts.now) member.now }
 {
     match member {
@@ -59,7 +59,7 @@ fn count_of(counts: &BTreeMap<String, usize>, member: &Member) -> usize
 
 fn note(
     alloc: Global,
-    counts: &mut BTreeMap<String, usize>,
+    counts: &mut HashMap<String, usize>,
     member: &Member,
     count: usize,
 ) -> Result<(), Memory>
@@ -82,7 +82,7 @@ pub(crate) fn name_methods(alloc: Global, members: &mut [Member]) -> Result<(), 
     ensures value { OnOk result (members.new ≡ named_from [] members.old) }
     ensures named { OnOk result (All IsRawMember members.old → All IsNamedMember members.new) }
 {
-    let mut counts = BTreeMap::new(alloc);
+    let mut counts = HashMap::new(alloc);
     for i in 0..members.len() {
         let count = count_of(&counts, &members[i]);
         note(alloc, &mut counts, &members[i], count)?;

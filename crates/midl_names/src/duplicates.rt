@@ -1,7 +1,7 @@
 //! Items whose full name is taken, but for ASCII case.
 
 ghost use Rattle.std.specs.Prelude.{◌≡◌, ℕ, List, true, IfOk, OnOk, Some, None, map, string_bytes, if◌then◌else◌};
-ghost use Rattle.std.specs.BTreeSet.{contains_text};
+ghost use Rattle.std.specs.HashSet.{contains_text};
 ghost use Rattle.std.specs.Str.{bytes_eq};
 ghost use Rattle.ranked.specs.First.{IsFirst, Among};
 ghost use Rattle.ranked.specs.Repeats.{Repeated};
@@ -15,7 +15,7 @@ use crate::scoped::Scoped;
 use found_table::is_found;
 use ranked::earlier;
 use std::alloc::Global;
-use std::collections::BTreeSet;
+use std::collections::HashSet;
 use wr_base::{Code, Memory, Refusal, lowered};
 
 fn lower_name(alloc: Global, item: &Scoped) -> Result<String, Memory>
@@ -51,7 +51,7 @@ pub(crate) fn found_again(alloc: Global, item: &Scoped) -> Result<Option<Refusal
 /// The item, where its full name was seen; its full name is then seen.
 fn seen_again(
     alloc: Global,
-    seen: &mut BTreeSet<String>,
+    seen: &mut HashSet<String>,
     item: &Scoped,
 ) -> Result<Option<Refusal>, Memory>
     ensures again { IfOk result (λ r. r ≡ (if contains_text seen.old (lower_name (item_of item.now)) then Some (duplicate_entry (item_of item.now)) else None)) }
@@ -68,7 +68,7 @@ fn seen_again(
 pub(crate) fn repeated_names(alloc: Global, items: &[Scoped]) -> Result<Option<Refusal>, Memory>
     ensures { IfOk result (IsFirst (Repeated lower_name duplicate_entry (map item_of items.now))) }
 {
-    let mut seen = BTreeSet::new(alloc);
+    let mut seen = HashSet::new(alloc);
     let mut first = None;
     for item in items {
         let again = seen_again(alloc, &mut seen, item)?;

@@ -1,7 +1,7 @@
 //! The first entry that is broken in the phase of names.
 
 ghost use Rattle.std.specs.Prelude.{◌≡◌, ℕ, List, IfOk, map};
-ghost use Rattle.std.specs.BTreeMap.{get_by_text};
+ghost use Rattle.std.specs.HashMap.{get_by_text};
 ghost use Rattle.ranked.specs.First.{IsFirst, Among};
 ghost use Rattle.midl_names.specs.Lookup.{declared_sort};
 ghost use Rattle.midl_names.specs.Names.{Broken, NameFaults, DoubledFaults, WrittenFaults, UnfitFaults, ItemFaults};

@@ -1,7 +1,7 @@
 //! The declarations of files, whose trees are let go one after the other.
 
 ghost use Rattle.std.specs.Prelude.{◌≡◌, ◌++◌, IfOk, OnOk, map};
-ghost use Rattle.std.specs.BTreeMap.{get_by_text};
+ghost use Rattle.std.specs.HashMap.{get_by_text};
 ghost use Rattle.midl_names.specs.Declares.{placed_of};
 ghost use Rattle.midl_names.specs.Items.{items_of_source, items_of};
 ghost use Rattle.midl_names.specs.Views.{source_of, sources_of};

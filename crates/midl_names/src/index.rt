@@ -1,7 +1,7 @@
 //! The declared types by full name.
 
 ghost use Rattle.std.specs.Prelude.{◌≡◌, ◌≤◌, ℕ, List, IfOk, OnOk, map};
-ghost use Rattle.std.specs.BTreeMap.{get_by_text};
+ghost use Rattle.std.specs.HashMap.{get_by_text};
 ghost use Rattle.wr_base.specs.Parts.{behind_last};
 ghost use Rattle.midl_tree.specs.Views.{decl_view};
 ghost use Rattle.midl_names.specs.Counts.{count_at};
@@ -13,14 +13,14 @@ use crate::scoped::Scoped;
 use crate::sort::Sort;
 use midl_tree::DeclNode;
 use std::alloc::Global;
-use std::collections::BTreeMap;
+use std::collections::HashMap;
 use wr_base::Memory;
 
 /// The sort of each declared type by its full name, and by the name behind the last dot the most bytes of a full name with it.
 #[derive(Debug, Drop)]
 pub(crate) struct Index {
-    pub(crate) sorts: BTreeMap<String, Sort>,
-    pub(crate) longest: BTreeMap<String, usize>,
+    pub(crate) sorts: HashMap<String, Sort>,
+    pub(crate) longest: HashMap<String, usize>,
     ghost within: { IsWithin (get_by_text sorts) (count_at longest) },
 }
 
@@ -46,7 +46,7 @@ fn last_part(text: &str) -> &str
     }
 }
 
-fn length_at(longest: &BTreeMap<String, usize>, name: &str) -> usize
+fn length_at(longest: &HashMap<String, usize>, name: &str) -> usize
     ensures { result ≡ count_at longest.now name.now }
 {
     match longest.get(name) {
@@ -65,7 +65,7 @@ pub(crate) fn longest_of(index: &Index, path: &str) -> usize
 
 fn note_length(
     alloc: Global,
-    longest: &mut BTreeMap<String, usize>,
+    longest: &mut HashMap<String, usize>,
     name: &str,
     length: usize,
 ) -> Result<(), Memory>
@@ -84,8 +84,8 @@ fn note_length(
 pub(crate) fn index_of(alloc: Global, items: &[Scoped]) -> Result<Index, Memory>
     ensures { IfOk result (λ index. (name : List ℕ) → get_by_text index.sorts name ≡ declared_sort (map item_of items.now) name) }
 {
-    let mut sorts = BTreeMap::new(alloc);
-    let mut longest = BTreeMap::new(alloc);
+    let mut sorts = HashMap::new(alloc);
+    let mut longest = HashMap::new(alloc);
     let mut left = items.len();
     'more: while left > 0 {
         left -= 1;

@@ -1,7 +1,7 @@
 //! The look-up of names.
 
 ghost use Rattle.std.specs.Prelude.{◌≡◌, ◌++◌, ◌∷◌, ◌+◌, ◌<◌, ◌≤◌, ℕ, List, Some, None, IfOk, OnOk, length, take, string_bytes, option_map, if◌then◌else◌};
-ghost use Rattle.std.specs.BTreeMap.{get_by_text};
+ghost use Rattle.std.specs.HashMap.{get_by_text};
 ghost use Rattle.wr_base.specs.Parts.{behind_last};
 ghost use Rattle.wr_base.specs.Paths.{is_path};
 ghost use Rattle.found_table.specs.Table.{builtin};

@@ -1,7 +1,7 @@
 //! Fields and members, one for each name.
 
 ghost use Rattle.std.specs.Prelude.{◌≡◌, ◌++◌, ◌∷◌, [], true, IfOk, OnOk, map, option_map};
-ghost use Rattle.std.specs.BTreeMap.{get_by_text};
+ghost use Rattle.std.specs.HashMap.{get_by_text};
 ghost use Rattle.std.specs.List.{All, flat_map};
 ghost use Rattle.midl_tree.specs.Views.{type_view, fields_view, param_view, member_view};
 ghost use Rattle.midl_names.specs.Members.{fields_of, members_of};

@@ -1,7 +1,7 @@
 //! Uses of types, resolved.
 
 ghost use Rattle.std.specs.Prelude.{◌≡◌, IfOk, map, option_map, string_bytes};
-ghost use Rattle.std.specs.BTreeMap.{get_by_text};
+ghost use Rattle.std.specs.HashMap.{get_by_text};
 ghost use Rattle.std.specs.List.{All};
 ghost use Rattle.midl_tree.specs.Views.{type_view, param_view};
 ghost use Rattle.midl_names.specs.Lookup.{look_up};

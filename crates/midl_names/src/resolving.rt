@@ -1,7 +1,7 @@
 //! The declarations of a set of files, or what is broken first.
 
 ghost use Rattle.std.specs.Prelude.{◌≡◌, ℕ, List, Some, None, IfOk, IfErr};
-ghost use Rattle.std.specs.BTreeMap.{get_by_text};
+ghost use Rattle.std.specs.HashMap.{get_by_text};
 ghost use Rattle.ranked.specs.Entries.{Entry};
 ghost use Rattle.ranked.specs.First.{IsFirst, Clear};
 ghost use Rattle.midl_names.specs.Answers.{BrokenFirst, RefusedFirst, Resolves, Refuses};

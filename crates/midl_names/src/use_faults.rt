@@ -1,7 +1,7 @@
 //! Uses that look-up doesn't find, and uses with another number of arguments than the type takes.
 
 ghost use Rattle.std.specs.Prelude.{◌≡◌, IfOk};
-ghost use Rattle.std.specs.BTreeMap.{get_by_text};
+ghost use Rattle.std.specs.HashMap.{get_by_text};
 ghost use Rattle.ranked.specs.First.{IsFirst, Among};
 ghost use Rattle.midl_tree.specs.Views.{type_view};
 ghost use Rattle.midl_names.specs.Faults.{Gives};

@@ -1,7 +1,7 @@
 //! Declarations with their uses resolved.
 
 ghost use Rattle.std.specs.Prelude.{◌≡◌, ◌++◌, true, false, IfOk, OnOk, map, unwrap_or};
-ghost use Rattle.std.specs.BTreeMap.{get_by_text};
+ghost use Rattle.std.specs.HashMap.{get_by_text};
 ghost use Rattle.std.specs.List.{All, flat_map};
 ghost use Rattle.midl_tree.specs.Views.{member_view, class_member_view, struct_view, delegate_view, interface_view, class_view, decl_view, enum_view};
 ghost use Rattle.midl_names.specs.Declares.{members_on, members_in, constructors_of, enum_of, struct_of, delegate_of, interface_of, class_of, written_by, placed_of};

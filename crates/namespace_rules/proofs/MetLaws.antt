@@ -2,7 +2,8 @@
 use Rattle.std.proofs.Common.{◌≡◌, ◌⊎◌, ⊎_elim, inl, inr, ◌<◌, ◌≤◌, ◌+◌, ℕ, zero, suc, Bool, true, false, ◌||◌, List, [], ◌∷◌, length, take, get_or, slice_get, Option, Some, is_lt, String, refl, sym, ap, subst, ◌∙◌, arith, true≢false}
 use Rattle.std.specs.List.{list_any}
 use Rattle.std.specs.Str.{bytes_eq}
-use Rattle.std.specs.BTreeSet.{BTreeSet, contains_text}
+use Rattle.std.specs.BTreeSet.{BTreeSet}
+use Rattle.std.specs.HashSet.{contains_text}
 use Rattle.std.specs.declared.alloc.Global.{Global}
 use Rattle.std.specs.declared.cmp.Ordering.{Ordering}
 use Rattle.std.specs.declared.cmp.Ordering.TheVariants.{Less, Equal, Greater}
@@ -31,7 +32,7 @@ use Rattle.place_order.proofs.StandLaws.{get_there}
 use Rattle.place_order.proofs.SumLaws.{stands_lower}
 use Rattle.place_order.proofs.EarlierLaws.{lower_first, none_lower, site_of_stand, stand_of_site}
 use Rattle.flagged_sites.proofs.FlagLaws.{if_told, tell_if}
-use Rattle.namespace_rules.specs.Spaces.{holds_in, AddsText, HasSpaces, is_told}
+use Rattle.namespace_rules.specs.Spaces.{Texts, holds_in, AddsText, HasSpaces, is_told}
 use Rattle.namespace_rules.specs.Pass.{has_name, is_named, HasMet, ClashAt}
 
 -- ---- the order of stands
@@ -142,9 +143,6 @@ found_is name = found_among table name
 
 -- ---- the pass
 
-abbrev Texts : Type 0
-Texts = BTreeSet (String Global)
-
 module _ (sites : List Site) (stands : List Stand) where
   -- one name more
   pub met_more : (i : ℕ) (x : Stand) (s : Site) (name : List ℕ) (old new : Texts) → slice_get stands i ≡ Some x → slice_get sites x.number ≡ Some s → name ≡ site_name s → HasMet sites stands i old → AddsText (lower name) old new → HasMet sites stands (i + 1) new
@@ -183,7 +181,7 @@ module _ (sites : List Site) (stands : List Stand) where
             (subst (λ (k : ℕ). Before y.place k x.place x.number) (sym n)
             (subst (λ (q : Place). Before q j x.place x.number) (sym place) (subst (λ (q : Place). Before t.places.at j q x.number) (sym place_here) (so_before sites j x.number t s e at b))))
 
-    module _ (spaces met : Texts) (has_spaces : HasSpaces (all_names sites) spaces) (has_met : HasMet sites stands i met) where
+    module _ (spaces : BTreeSet (String Global)) (met : Texts) (has_spaces : HasSpaces (all_names sites) spaces) (has_met : HasMet sites stands i met) where
       told_from : is_told spaces met (site_name s) ≡ true → NamesClash sites x.number (site_name s)
       told_from h = ⊎_elim
           (λ a. inl (sym (has_spaces (lower (site_name s))) ∙ a))

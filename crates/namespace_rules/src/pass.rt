@@ -11,13 +11,13 @@ ghost use Rattle.place_order.specs.Stands.{IsPlaceOrder};
 ghost use Rattle.set_limits.specs.Pass.{IsStep};
 ghost use Rattle.namespace_rules.specs.Spaces.{AddsText, HasSpaces, is_told};
 
-use crate::spaces::{add_text, is_space, names_of};
+use crate::spaces::{add_own, is_space, names_of};
 use found_table::is_found;
 use place_order::{Stand, in_place_order};
 use placed_sites::{Site, refuse_if};
 use ranked::earlier;
 use std::alloc::{AllocError, Global};
-use std::collections::BTreeSet;
+use std::collections::{BTreeSet, HashSet};
 use wr_base::{Code, FullName, PlacedTypes, Refusal, lowered};
 
 fn stand_at(stands: &[Stand], i: usize) -> Stand
@@ -41,7 +41,7 @@ pub fn site_of<'a>(types: &'a PlacedTypes, stands: &[Stand], i: usize) -> Site<'
 fn meet(
     alloc: Global,
     names: &BTreeSet<String>,
-    met: &mut BTreeSet<String>,
+    met: &mut HashSet<String>,
     name: &FullName,
 ) -> Result<bool, AllocError>
     ensures told { IfOk result (λ b. b ≡ is_told names.now met.old name.now) }
@@ -50,7 +50,7 @@ fn meet(
     let text = lowered(alloc, name.as_str())?;
     let is_space = is_space(alloc, names, text.as_str())?;
     let told = is_space || is_found(name.as_str()) || met.contains(text.as_str());
-    add_text(alloc, met, text.as_str())?;
+    add_own(met, text)?;
     Ok(told)
 }
 
@@ -71,7 +71,7 @@ fn first_in_order(
     ensures { IfOk result (IsFirst (IsNamespaceClash (sites_of types.now.types types.now.places))) }
 {
     let mut first = None;
-    let mut met = BTreeSet::new(alloc);
+    let mut met = HashSet::new(alloc);
     for i in 0..stands.len() {
         let site = site_of(types, stands, i);
         let told = meet(alloc, names, &mut met, site.declaration.name())?;

@@ -1,23 +1,23 @@
 //! Ids with the texts that are known already, so that the signature of an instance is made once.
 
 ghost use Rattle.std.specs.Prelude.{◌≡◌, ◌∷◌, [], true, OnOk};
-ghost use Rattle.std.specs.BTreeSet.{Updates, contains_text};
-ghost use Rattle.std.specs.String.{string_cmp};
+ghost use Rattle.std.specs.HashSet.{Updates, contains_text};
+ghost use Rattle.std.specs.String.{string_eq};
 ghost use Rattle.pinterface_id.specs.Gathering.{Gathers, Knows};
 
 use std::alloc::{AllocError, Global};
-use std::collections::BTreeSet;
+use std::collections::HashSet;
 use wr_base::{Name, UseId};
 
 /// Ids that were found so far, and the texts that have one among them.
 #[derive(Debug, Drop)]
 pub(crate) struct Gathered {
     pub(crate) list: Vec<UseId>,
-    pub(crate) known: BTreeSet<String>,
+    pub(crate) known: HashSet<String>,
 }
 
-fn mark(known: &mut BTreeSet<String>, text: String) -> Result<(), AllocError>
-    ensures { OnOk result (Updates string_cmp known.old known.new text true) }
+fn mark(known: &mut HashSet<String>, text: String) -> Result<(), AllocError>
+    ensures { OnOk result (Updates string_eq known.old known.new text true) }
 {
     match known.insert(text) {
         Ok(_) => Ok(()),
@@ -33,7 +33,7 @@ impl Gathered {
     {
         Gathered {
             list: Vec::new(alloc),
-            known: BTreeSet::new(alloc),
+            known: HashSet::new(alloc),
         }
     }
 

@@ -8,8 +8,8 @@ ghost use Rattle.winmd_cells.specs.Seen.{seen, tables_in, heaps_in, followed_cel
 
 use crate::cells::{Value, column_of};
 use crate::image::Image;
-use crate::places::place;
 use md_schema::{Column, Table};
+use md_tables::place;
 use ranked::Memory;
 use std::alloc::Global;
 

@@ -10,7 +10,6 @@ mod making;
 mod named;
 mod names;
 mod offsets;
-mod places;
 mod sizes;
 mod starts;
 

@@ -7,8 +7,8 @@ ghost use Rattle.winmd_lines.specs.Cells as cells_as;
 ghost use Rattle.winmd_cells.specs.Seen.{tables_in};
 
 use crate::image::Image;
-use crate::places::place;
 use md_schema::{Column, Sizes, Table, columns, width};
+use md_tables::place;
 
 fn entry(list: &[u64], i: usize) -> u64
     ensures { result ≡ get_or list.now i 0 }

@@ -4,6 +4,7 @@ ghost use Rattle.std.specs.Prelude.{◌≡◌, ◌≤◌, ◌<◌};
 ghost use Rattle.md_schema.specs.Tables as tables;
 
 use md_schema::Sizes;
+use md_tables::{bit_count, has_bit};
 use winmd_image::number_at;
 
 /// Valid, the eight bytes of the header with a bit for each table.
@@ -11,28 +12,6 @@ pub fn valid(stream: &[u8]) -> u64
     ensures { result ≡ tables.valid_of stream.now }
 {
     number_at(stream, 8, 4) as u64 + 0x1_0000_0000 * number_at(stream, 12, 4) as u64
-}
-
-fn has_bit(value: u64, bit: u32) -> bool
-    requires { bit < 64 }
-    ensures { result ≡ tables.has_bit value bit }
-{
-    (value >> bit) % 2 == 1
-}
-
-/// How many of the low bits are set.
-pub fn bit_count(value: u64, bits: u32) -> u32
-    requires { bits ≤ 64 }
-    ensures value { result ≡ tables.bits_set bits value }
-    ensures small { result ≤ bits }
-{
-    let mut rest = value;
-    let mut count = 0;
-    for _ in 0..bits {
-        count += (rest % 2) as u32;
-        rest /= 2;
-    }
-    count
 }
 
 /// The row count of the table of a number: behind those of the tables before it, or 0 without its bit.

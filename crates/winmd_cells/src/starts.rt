@@ -7,8 +7,8 @@ ghost use Rattle.md_schema.specs.Tables.{table_size, table_start, upto};
 ghost use Rattle.md_schema.specs.Widths.{count_of};
 
 use crate::offsets::total_width;
-use crate::places::place;
 use md_schema::{Sizes, TABLES, Table, columns};
+use md_tables::place;
 use ranked::Memory;
 use std::alloc::Global;
 

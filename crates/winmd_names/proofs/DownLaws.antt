@@ -1,25 +1,21 @@
 -- What is put from the last item down to the first.
-use Rattle.std.proofs.Common.{◌≡◌, ℕ, suc, ◌+◌, ◌-◌, ◌<◌, ◌≤◌, Bool, true, false, List, [], ◌∷◌, map, get_or, drop, length, refl, sym, ap, ◌∙◌, arith, inl, inr}
+use Rattle.std.proofs.Common.{◌≡◌, ℕ, suc, ◌+◌, ◌-◌, ◌<◌, ◌≤◌, Bool, List, [], ◌∷◌, map, get_or, drop, length, refl, sym, ap, ◌∙◌, arith, inl, inr}
 use Rattle.std.specs.Prelude.{◌&&◌, not, Option, Some, String, Vec, string_bytes, if◌then◌else◌}
 use Rattle.std.specs.Str.{bytes_eq}
-use Rattle.std.specs.Map.{lookup}
-use Rattle.std.specs.BTreeMap.{insert_entry}
-use Rattle.std.specs.Ordering.{nat_cmp, is_eq, match_ordering}
-use Rattle.std.specs.Cmp.Lexicographic.{slice_cmp, bytes_decides}
-use Rattle.std.specs.declared.cmp.Ordering.{Ordering}
-use Rattle.std.specs.declared.cmp.Ordering.TheVariants.{Less, Equal, Greater}
+use Rattle.std.specs.Map.{AreApart, IsKeyTest, KeepsOthers, lookup}
+use Rattle.std.specs.HashMap.{Updates}
+use Rattle.std.specs.Cmp.Lexicographic.{bytes_decides}
 use Rattle.std.specs.declared.alloc.Global.{Global}
 use Rattle.std.proofs.lemmas.List.{drop_more}
-use Rattle.std.proofs.lemmas.Map.Text.{is_eq-slice_cmp}
 use Rattle.md_schema.specs.declared.table.Table.TheVariants as tables
 use Rattle.wr_base.specs.declared.type_use.TypeUse.{TypeUse}
 use Rattle.wr_base.specs.Trees.{UseTree, same_use, tree_of}
 use Rattle.winmd_lines.specs.Names.{is_outside}
-use Rattle.winmd_uses.specs.Instances.{key_cmp}
+use Rattle.winmd_uses.specs.Known.{key_eq}
 use Rattle.winmd_uses.specs.Keys.{key_of}
 use Rattle.winmd_uses.proofs.KeyLaws.{key_same}
 use Rattle.winmd_uses.proofs.TakeLaws.{either}
-use Rattle.winmd_names.specs.InstanceRows.{row_among}
+use Rattle.winmd_names.specs.InstanceRows.{KeyedRows, row_among, row_under}
 use Rattle.winmd_names.specs.Numbers.{def_number, ref_number, row_code}
 
 -- nothing stands behind the last
@@ -73,42 +69,22 @@ rows_down uses left row v u new old some all r e o n =
 abbrev Key : Type 0
 Key = Vec ℕ Global
 
-abbrev Entries : Type 0
-Entries = List (Key × ℕ)
+-- the rows under other keys are there as before
+other_rows : (k : Key) (old new : List (Key × ℕ)) → KeepsOthers key_eq (key_eq k) old new → (other : Key → Bool) → IsKeyTest key_eq other → AreApart (key_eq k) other → lookup other new ≡ lookup other old
+unfolding KeepsOthers
+other_rows k old new h = h
 
-put_at : (bs : List ℕ) (k : Key) (row : ℕ) (e : Key × ℕ) (es inserted : Entries) (o : Ordering) → slice_cmp nat_cmp k.items e.0.items ≡ o
-    → lookup (λ x. is_eq (slice_cmp nat_cmp bs x.items)) inserted ≡ (if bytes_eq bs k.items then Some row else lookup (λ x. is_eq (slice_cmp nat_cmp bs x.items)) es)
-    → lookup (λ x. is_eq (slice_cmp nat_cmp bs x.items)) (match_ordering o ((k, row) ∷ e ∷ es) ((e.0, row) ∷ es) (e ∷ inserted)) ≡ (if bytes_eq bs k.items then Some row else lookup (λ x. is_eq (slice_cmp nat_cmp bs x.items)) (e ∷ es))
-put_at bs k row e es inserted Less c h = rw (is_eq-slice_cmp bs k.items) refl
-put_at bs k row e es inserted Equal c h =
-    let is : k.items ≡ e.0.items = (bytes_decides k.items e.0.items).0 (sym (is_eq-slice_cmp k.items e.0.items) ∙ ap is_eq c) in
+put_under : (bs : List ℕ) (k : Key) (row : ℕ) (m n : KeyedRows) → Updates key_eq m n k (Some row) → row_under n bs ≡ (if bytes_eq bs k.items then Some row else row_under m bs)
+put_under bs k row m n u =
     elim (either (bytes_eq bs k.items)) [
-      | inl t ↦ (let t2 : is_eq (slice_cmp nat_cmp bs e.0.items) ≡ true = is_eq-slice_cmp bs e.0.items ∙ ap (bytes_eq bs) (sym is) ∙ t in rw (t, t2) refl)
-      | inr t ↦ (let t2 : is_eq (slice_cmp nat_cmp bs e.0.items) ≡ false = is_eq-slice_cmp bs e.0.items ∙ ap (bytes_eq bs) (sym is) ∙ t in rw (t, t2) refl)
+      | inl t ↦ ap (row_under n) ((bytes_decides bs k.items).0 t) ∙ u.1 ∙ rw t refl
+      | inr t ↦
+          other_rows k m.entries n.entries u.3 (λ x. bytes_eq bs x.items) (λ x y e. ap (λ (w : List ℕ). bytes_eq w y.items) ((bytes_decides bs x.items).0 e))
+          (λ x e. ap (bytes_eq bs) (sym ((bytes_decides k.items x.items).0 e)) ∙ t)
+          ∙ rw t refl
     ]
-put_at bs k row e es inserted Greater c h =
-    elim (either (is_eq (slice_cmp nat_cmp bs e.0.items))) [
-      | inl t ↦
-          let is : bs ≡ e.0.items = (bytes_decides bs e.0.items).0 (sym (is_eq-slice_cmp bs e.0.items) ∙ t) in
-          let no : bytes_eq k.items bs ≡ false = sym (is_eq-slice_cmp k.items bs) ∙ ap (λ (w : List ℕ). is_eq (slice_cmp nat_cmp k.items w)) is ∙ ap is_eq c in
-          let no2 : bytes_eq bs k.items ≡ false = turned_no bs k.items no in
-          rw (t, no2) refl
-      | inr t ↦ rw t h
-    ]
-  where
-    turned_no : (a b : List ℕ) → bytes_eq b a ≡ false → bytes_eq a b ≡ false
-    turned_no a b h = elim (either (bytes_eq a b)) [
-      | inl g ↦ absurd (let t : bytes_eq b a ≡ true = (bytes_decides b a).1 (sym ((bytes_decides a b).0 g)) in cc)
-      | inr g ↦ g
-    ]
-
-put_under : (bs : List ℕ) (k : Key) (row : ℕ) (es : Entries) → lookup (λ x. is_eq (slice_cmp nat_cmp bs x.items)) (insert_entry key_cmp es k row) ≡ (if bytes_eq bs k.items then Some row else lookup (λ x. is_eq (slice_cmp nat_cmp bs x.items)) es)
-put_under bs k row [] = rw (is_eq-slice_cmp bs k.items) refl
-put_under bs k row (e ∷ es) = put_at bs k row e es (insert_entry key_cmp es k row) (slice_cmp nat_cmp k.items e.0.items) refl (put_under bs k row es)
 
 -- the row of a use
-pub row_put : (u v : UseTree) (k : Key) (row : ℕ) (es new : Entries) → k.items ≡ key_of v → new ≡ insert_entry key_cmp es k row
-    → lookup (λ x. is_eq (slice_cmp nat_cmp (key_of u) x.items)) new ≡ (if same_use u v then Some row else lookup (λ x. is_eq (slice_cmp nat_cmp (key_of u) x.items)) es)
-row_put u v k row es new e n =
-    ap (lookup (λ x. is_eq (slice_cmp nat_cmp (key_of u) x.items))) n ∙ put_under (key_of u) k row es
-    ∙ ap (λ (b : Bool). if b then Some row else lookup (λ x. is_eq (slice_cmp nat_cmp (key_of u) x.items)) es) (ap (bytes_eq (key_of u)) e ∙ key_same u v)
+pub row_put : (u v : UseTree) (k : Key) (row : ℕ) (m n : KeyedRows) → k.items ≡ key_of v → Updates key_eq m n k (Some row)
+    → row_under n (key_of u) ≡ (if same_use u v then Some row else row_under m (key_of u))
+row_put u v k row m n e h = put_under (key_of u) k row m n h ∙ ap (λ (b : Bool). if b then Some row else row_under m (key_of u)) (ap (bytes_eq (key_of u)) e ∙ key_same u v)

@@ -6,8 +6,8 @@ ghost use Rattle.std.specs.Ordering.{nat_cmp};
 ghost use Rattle.std.specs.Cmp.Lexicographic.{slice_cmp};
 ghost use Rattle.wr_base.specs.Trees.{UseTree, same_use, tree_of};
 ghost use Rattle.winmd_sets.specs.Rows.{by_text};
-ghost use Rattle.std.specs.BTreeMap.{insert_entry};
-ghost use Rattle.winmd_uses.specs.Instances.{key_cmp};
+ghost use Rattle.std.specs.HashMap.{Updates};
+ghost use Rattle.winmd_uses.specs.Known.{key_eq};
 ghost use Rattle.winmd_uses.specs.Keys.{key_of};
 ghost use Rattle.winmd_names.specs.InstanceRows.{row_among, row_under};
 ghost use Rattle.winmd_names.specs.Texted.{text_key, tree_in, trees_in};
@@ -15,7 +15,7 @@ ghost use Rattle.winmd_names.specs.Texted.{text_key, tree_in, trees_in};
 use crate::texted::Texted;
 use ranked::Memory;
 use std::alloc::{AllocError, Global};
-use std::collections::BTreeMap;
+use std::collections::HashMap;
 use winmd_uses::put_key;
 use wr_base::TypeUse;
 
@@ -67,8 +67,8 @@ pub(crate) fn in_order(alloc: Global, uses: &[TypeUse]) -> Result<Vec<TypeUse>, 
     without_texts(alloc, list)
 }
 
-fn put(rows: &mut BTreeMap<Vec<u8>, u32>, key: Vec<u8>, row: u32) -> Result<(), Memory>
-    ensures { OnOk result (rows.new.entries ≡ insert_entry key_cmp rows.old.entries key row) }
+fn put(rows: &mut HashMap<Vec<u8>, u32>, key: Vec<u8>, row: u32) -> Result<(), Memory>
+    ensures { OnOk result (Updates key_eq rows.old rows.new key (Some row)) }
 {
     match rows.insert(key, row) {
         Ok(_) => Ok(()),
@@ -78,7 +78,7 @@ fn put(rows: &mut BTreeMap<Vec<u8>, u32>, key: Vec<u8>, row: u32) -> Result<(), 
 
 fn put_row(
     alloc: Global,
-    rows: &mut BTreeMap<Vec<u8>, u32>,
+    rows: &mut HashMap<Vec<u8>, u32>,
     ty: &TypeUse,
     row: u32,
 ) -> Result<(), Memory>
@@ -90,11 +90,11 @@ fn put_row(
 }
 
 /// The row of each instance, from 1 on, under its key.
-pub(crate) fn rows_of(alloc: Global, uses: &[TypeUse]) -> Result<BTreeMap<Vec<u8>, u32>, Memory>
+pub(crate) fn rows_of(alloc: Global, uses: &[TypeUse]) -> Result<HashMap<Vec<u8>, u32>, Memory>
     requires { length uses.now < 2 ^ 32 }
     ensures { IfOk result (λ rows. (u : UseTree) → row_under rows (key_of u) ≡ row_among 1 (map tree_of uses.now) u) }
 {
-    let mut rows = BTreeMap::new(alloc);
+    let mut rows = HashMap::new(alloc);
     let mut left = uses.len();
     while left > 0 {
         left -= 1;

@@ -5,7 +5,7 @@ ghost use Rattle.winmd_names.specs.Exact.{HasNumbers, HasRows};
 
 use sig_blobs::Tokens;
 use std::alloc::Global;
-use std::collections::BTreeMap;
+use std::collections::HashMap;
 use winmd_uses::Maker;
 use wr_base::{FullName, TypeUse};
 
@@ -20,7 +20,7 @@ pub struct TypeNames {
 #[derive(Drop)]
 pub struct InstanceRows {
     pub(crate) list: Vec<TypeUse>,
-    pub(crate) rows: BTreeMap<Vec<u8>, u32>,
+    pub(crate) rows: HashMap<Vec<u8>, u32>,
     ghost few: { length list.items < 2 ^ 24 },
     ghost exact: { HasRows list.items rows },
 }

@@ -1,6 +1,6 @@
 -- How often full names stand among declarations.
 use Rattle.std.specs.Prelude.{◌≡◌, ℕ, Bool, true, false, List, String}
-use Rattle.std.specs.BTreeMap.{BTreeMap, get_by_text}
+use Rattle.std.specs.HashMap.{HashMap, get_by_text}
 use Rattle.std.specs.Option.{unwrap_or}
 use Rattle.std.specs.Str.{bytes_eq}
 use Rattle.wr_base.specs.Declarations.{name_of}
@@ -8,7 +8,7 @@ use Rattle.winmd_sets.specs.Types.{sum_of}
 use Rattle.winmd_set.specs.declared.stated.Stated.{Stated}
 
 -- the count of a name, which is 0 where the map lacks it
-abbrev pub count_at : {Y : Type 0} → BTreeMap (String Y) ℕ → List ℕ → ℕ
+abbrev pub count_at : {Y S : Type 0} → HashMap (String Y) ℕ S → List ℕ → ℕ
 count_at counts text = unwrap_or (get_by_text counts text) 0
 
 abbrev pub one : Bool → ℕ
@@ -20,5 +20,5 @@ abbrev pub times : List ℕ → List Stated → ℕ
 times text list = sum_of (λ s. one (bytes_eq text (name_of s.declaration))) list
 
 -- The map counts these names.
-abbrev pub Counts : {Y : Type 0} → BTreeMap (String Y) ℕ → List Stated → Type 0
+abbrev pub Counts : {Y S : Type 0} → HashMap (String Y) ℕ S → List Stated → Type 0
 Counts counts list = (text : List ℕ) → count_at counts text ≡ times text list

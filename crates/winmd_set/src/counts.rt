@@ -9,9 +9,9 @@ ghost use Rattle.winmd_set.specs.declared.stated.Stated.{Stated};
 use crate::stated::Stated;
 use ranked::Memory;
 use std::alloc::{AllocError, Global};
-use std::collections::BTreeMap;
+use std::collections::HashMap;
 
-fn count_in(counts: &BTreeMap<String, u64>, text: &str) -> u64
+fn count_in(counts: &HashMap<String, u64>, text: &str) -> u64
     ensures { result ≡ count_at counts.now text.now }
 {
     match counts.get(text) {
@@ -20,7 +20,7 @@ fn count_in(counts: &BTreeMap<String, u64>, text: &str) -> u64
     }
 }
 
-fn set_count(counts: &mut BTreeMap<String, u64>, text: String, count: u64) -> Result<(), Memory>
+fn set_count(counts: &mut HashMap<String, u64>, text: String, count: u64) -> Result<(), Memory>
     ensures { OnOk result ((other : List ℕ) → count_at counts.new other ≡ (if bytes_eq (string_bytes text) other then count else count_at counts.old other)) }
 {
     counts.insert(text, count)?;
@@ -29,7 +29,7 @@ fn set_count(counts: &mut BTreeMap<String, u64>, text: String, count: u64) -> Re
 
 fn put_count(
     alloc: Global,
-    counts: &mut BTreeMap<String, u64>,
+    counts: &mut HashMap<String, u64>,
     name: &str,
     count: u64,
 ) -> Result<(), Memory>
@@ -41,7 +41,7 @@ fn put_count(
 
 // Counts a name once more. The last number of a `u64` isn't given; that is want of memory.
 #[tactic(auto, using(crate::proofs::CountLaws::one_more))]
-fn count_one(alloc: Global, counts: &mut BTreeMap<String, u64>, name: &str) -> Result<(), Memory>
+fn count_one(alloc: Global, counts: &mut HashMap<String, u64>, name: &str) -> Result<(), Memory>
     ensures { OnOk result ((text : List ℕ) → count_at counts.new text ≡ one (bytes_eq text name.now) + count_at counts.old text) }
 {
     match count_in(counts, name).checked_add(1) {
@@ -51,10 +51,10 @@ fn count_one(alloc: Global, counts: &mut BTreeMap<String, u64>, name: &str) -> R
 }
 
 /// How often the full names of declarations stand among them.
-pub(crate) fn count_names(alloc: Global, list: &[Stated]) -> Result<BTreeMap<String, u64>, Memory>
+pub(crate) fn count_names(alloc: Global, list: &[Stated]) -> Result<HashMap<String, u64>, Memory>
     ensures { IfOk result (λ counts. Counts counts list.now) }
 {
-    let mut counts = BTreeMap::new(alloc);
+    let mut counts = HashMap::new(alloc);
     let mut rest = list;
     'each: while let Some((first, after)) = rest.split_first() {
         count_one(alloc, &mut counts, first.declaration.name().as_str())?;
@@ -67,7 +67,7 @@ pub(crate) fn count_names(alloc: Global, list: &[Stated]) -> Result<BTreeMap<Str
 #[tactic(auto, using(crate::proofs::CountLaws::one_less, crate::proofs::CountLaws::again_is))]
 pub(crate) fn stands_again(
     alloc: Global,
-    counts: &mut BTreeMap<String, u64>,
+    counts: &mut HashMap<String, u64>,
     stated: &Stated,
 ) -> Result<bool, Memory>
     ensures again { IfOk result (λ again. (rest : List Stated) → Counts counts.old (stated.now ∷ rest) → again ≡ is_again (stated_seen stated.now) (map stated_seen rest)) }

@@ -17,7 +17,7 @@ use crate::stated::Stated;
 use md_schema::{ImageFault, ImageKind, Table};
 use ranked::Stop;
 use std::alloc::Global;
-use std::collections::BTreeMap;
+use std::collections::HashMap;
 use winmd_cells::Image;
 use winmd_source::refused;
 
@@ -79,7 +79,7 @@ fn within_limits(
 fn step(
     alloc: Global,
     image: &Image<'_>,
-    counts: &mut BTreeMap<String, u64>,
+    counts: &mut HashMap<String, u64>,
     types: u64,
     parts: u64,
     stated: &Stated,
@@ -99,7 +99,7 @@ fn step(
 fn check_rest(
     alloc: Global,
     image: &Image<'_>,
-    counts: &mut BTreeMap<String, u64>,
+    counts: &mut HashMap<String, u64>,
     list: &[Stated],
 ) -> Result<(), Stop<ImageFault>>
     requires { Counts counts.old list.now }

@@ -3,13 +3,11 @@ use Rattle.std.proofs.Common.{◌≡◌, ℕ, ◌+◌, ◌<◌, ◌≤◌, Bool,
 use Rattle.std.specs.Prelude.{◌||◌, Vec}
 use Rattle.std.specs.List.{list_any, flat_map}
 use Rattle.std.specs.Str.{bytes_eq}
-use Rattle.std.specs.Ordering.{nat_cmp, is_eq, match_ordering}
-use Rattle.std.specs.Cmp.Lexicographic.{slice_cmp, bytes_decides}
-use Rattle.std.specs.declared.cmp.Ordering.{Ordering}
-use Rattle.std.specs.declared.cmp.Ordering.TheVariants.{Less, Equal, Greater}
+use Rattle.std.specs.Cmp.Lexicographic.{bytes_decides}
+use Rattle.std.specs.HashSet.{Updates}
+use Rattle.std.specs.Map.{AreApart, IsKeyTest}
+use Rattle.std.specs.Set.{KeepsOthers}
 use Rattle.std.specs.declared.alloc.Global.{Global}
-use Rattle.std.specs.BTreeSet.{insert_key}
-use Rattle.std.proofs.lemmas.Map.Text.{is_eq-slice_cmp}
 use Rattle.std.proofs.lemmas.List.Folds.{list_any-append}
 use Rattle.std.proofs.lemmas.Bool.{eq-eqb}
 use Rattle.std.proofs.lemmas.List.{take_more, take_all}
@@ -20,7 +18,8 @@ use Rattle.wr_base.specs.declared.type_use.Base.{Base}
 use Rattle.wr_base.specs.Trees.{UseTree, plain, value, reference, instance, UseTrees, no_uses, use_and, base_number, same_use, tree_of, uses_of}
 use Rattle.wr_base.proofs.TreeLaws.{same_use-is, same_use-refl, tree_Inst}
 use Rattle.winmd_uses.specs.Keys.{marked, key_of, keys_of}
-use Rattle.winmd_uses.specs.Instances.{Adds, all_of, has_key, key_cmp}
+use Rattle.winmd_uses.specs.Known.{Hashed, key_eq}
+use Rattle.winmd_uses.specs.Instances.{Adds, all_of, has_bytes, has_key}
 use Rattle.winmd_uses.specs.declared.instances.Instances.{Instances}
 use Rattle.winmd_uses.proofs.TakeLaws.{either}
 
@@ -94,35 +93,28 @@ key_same u v =
 abbrev Key : Type 0
 Key = Vec ℕ Global
 
-or_swap : (a b : Bool) → (a || b) ≡ (b || a)
-or_swap true true = refl
-or_swap true false = refl
-or_swap false true = refl
-or_swap false false = refl
+or_false : (b : Bool) → (b || false) ≡ b
+or_false true = refl
+or_false false = refl
 
-or_under : (a b c : Bool) → (a || (b || c)) ≡ ((a || b) || c)
-or_under true b c = refl
-or_under false b c = refl
+or_true : (b : Bool) → (b || true) ≡ true
+or_true true = refl
+or_true false = refl
 
-same_first : (o : Bool) (a b : Bool) → a ≡ b → (a || o) ≡ ((a || o) || b)
-same_first o true b e = refl
-same_first true false b e = refl
-same_first false false b e = e
+-- the keys but the one that is put are there as before
+other_keys : (k : Key) (old new : List Key) → KeepsOthers key_eq (key_eq k) old new → (other : Key → Bool) → IsKeyTest key_eq other → AreApart (key_eq k) other → list_any other new ≡ list_any other old
+unfolding KeepsOthers
+other_keys k old new h = h
 
-abbrev is_key : List ℕ → Key → Bool
-is_key bs x = is_eq (slice_cmp nat_cmp bs x.items)
-
-placed_key : (bs : List ℕ) (k x : Key) (xs inserted : List Key) (o : Ordering) → slice_cmp nat_cmp k.items x.items ≡ o → list_any (is_key bs) inserted ≡ (list_any (is_key bs) xs || bytes_eq bs k.items)
-    → list_any (is_key bs) (match_ordering o (k ∷ x ∷ xs) (x ∷ xs) (x ∷ inserted)) ≡ (list_any (is_key bs) (x ∷ xs) || bytes_eq bs k.items)
-placed_key bs k x xs inserted Less e h = ap (λ (b : Bool). b || list_any (is_key bs) (x ∷ xs)) (is_eq-slice_cmp bs k.items) ∙ or_swap (bytes_eq bs k.items) (list_any (is_key bs) (x ∷ xs))
-placed_key bs k x xs inserted Equal e h =
-    let is : k.items ≡ x.items = (bytes_decides k.items x.items).0 (sym (is_eq-slice_cmp k.items x.items) ∙ ap is_eq e) in
-    same_first (list_any (is_key bs) xs) (is_key bs x) (bytes_eq bs k.items) (is_eq-slice_cmp bs x.items ∙ ap (bytes_eq bs) (sym is))
-placed_key bs k x xs inserted Greater e h = ap (λ (b : Bool). is_key bs x || b) h ∙ or_under (is_key bs x) (list_any (is_key bs) xs) (bytes_eq bs k.items)
-
-pub any_inserted : (bs : List ℕ) (k : Key) (xs : List Key) → list_any (is_key bs) (insert_key key_cmp xs k) ≡ (list_any (is_key bs) xs || bytes_eq bs k.items)
-any_inserted bs k [] = ap (λ (b : Bool). b || false) (is_eq-slice_cmp bs k.items) ∙ or_swap (bytes_eq bs k.items) false
-any_inserted bs k (x ∷ xs) = placed_key bs k x xs (insert_key key_cmp xs k) (slice_cmp nat_cmp k.items x.items) refl (any_inserted bs k xs)
+pub any_put : (bs : List ℕ) (k : Key) (s n : Hashed Key) → Updates key_eq s n k true → has_bytes n bs ≡ (has_bytes s bs || bytes_eq bs k.items)
+any_put bs k s n u =
+    elim (either (bytes_eq bs k.items)) [
+      | inl t ↦ ap (has_bytes n) ((bytes_decides bs k.items).0 t) ∙ u.1 ∙ sym (ap (λ (b : Bool). has_bytes s bs || b) t ∙ or_true (has_bytes s bs))
+      | inr t ↦
+          other_keys k s.keys n.keys u.3 (λ x. bytes_eq bs x.items) (λ x y e. ap (λ (w : List ℕ). bytes_eq w y.items) ((bytes_decides bs x.items).0 e))
+          (λ x e. ap (bytes_eq bs) (sym ((bytes_decides k.items x.items).0 e)) ∙ t)
+          ∙ sym (ap (λ (b : Bool). has_bytes s bs || b) t ∙ or_false (has_bytes s bs))
+    ]
 
 -- ---- a use is added
 
@@ -131,10 +123,6 @@ adds_known u i h = record {
   agrees = λ a. a;
   all = λ a. rw (sym (a u) ∙ h) refl;
 }
-
-or_false : (b : Bool) → (b || false) ≡ b
-or_false true = refl
-or_false false = refl
 
 pub adds_new : (u : UseTree) (key : List ℕ) (old new : Instances) → key ≡ key_of u → has_key old key ≡ false → ((other : List ℕ) → has_key new other ≡ (has_key old other || bytes_eq other key)) → all_of new ≡ all_of old ++ u ∷ [] → Adds u old new
 adds_new u key old new is absent keys all = record {

@@ -3,6 +3,6 @@ pub mod UseLaws
 pub mod KeyLaws
 pub mod DefaultLaws
 pub mod MemberLaws
-pub mod RecentLaws
+pub mod KnownLaws
 pub mod KindLaws
 pub mod WholeLaws

@@ -4,9 +4,10 @@ use Rattle.std.specs.Prelude.{◌||◌, ◌⊎◌, String, string_bytes}
 use Rattle.std.specs.BTreeSet.{BTreeSet, Updates, contains_text}
 use Rattle.std.specs.Cmp.{both_ways}
 use Rattle.std.specs.Cmp.Lexicographic.{bytes_decides}
-use Rattle.std.specs.String.{string_cmp}
+use Rattle.std.specs.HashSet as hash
+use Rattle.std.specs.String.{string_cmp, string_eq}
 use Rattle.std.specs.declared.alloc.Global.{Global}
-use Rattle.std.proofs.lemmas.Map.Text.{btree_set_updates_text}
+use Rattle.std.proofs.lemmas.Map.Text.{btree_set_updates_text, hash_set_updates_text}
 use Rattle.std.specs.List.{list_any, flat_map}
 use Rattle.std.specs.Str.{bytes_eq}
 use Rattle.std.proofs.lemmas.List.{take_more, take_all}
@@ -21,6 +22,7 @@ use Rattle.winmd_lines.specs.UsedNames.{names_in_signature}
 use Rattle.winmd_lines.specs.Names.{is_maker, makers_in_cell, specs_in_cell}
 use Rattle.winmd_uses.specs.Instances.{Adds, Agrees, add_once, all_of}
 use Rattle.winmd_uses.specs.Kinds.{nothing}
+use Rattle.winmd_uses.specs.Known.{Hashed}
 use Rattle.winmd_uses.specs.Takes.{Says, Takes, add_each, both, cell_says, has_maker, has_name, instances_of, lines_say, maker_alone, named_by, names_alone, spec_alone}
 use Rattle.winmd_uses.specs.declared.names.Names.{Names}
 use Rattle.winmd_uses.specs.declared.used.Used.{Used}
@@ -198,6 +200,10 @@ cond_or : (b c : Bool) → cond b true c ≡ (b || c)
 cond_or true c = refl
 cond_or false c = refl
 
+-- what is put at one text
+put_is : (a b : List ℕ) (c : Bool) → cond (bytes_eq a b) true c ≡ (bytes_eq b a || c)
+put_is a b c = cond_or (bytes_eq a b) c ∙ ap (λ (x : Bool). x || c) (bytes_turned a b)
+
 or_turned : (a b : Bool) → (a || b) ≡ (b || a)
 or_turned true true = refl
 or_turned true false = refl
@@ -206,7 +212,11 @@ or_turned false false = refl
 
 -- a text is put into a set
 pub text_put : (s n : BTreeSet (String Global)) (text : String Global) → Updates string_cmp s n text true → (other : List ℕ) → contains_text n other ≡ (bytes_eq other (string_bytes text) || contains_text s other)
-text_put s n text u other = btree_set_updates_text (string_bytes text) s n true u other ∙ cond_or (bytes_eq (string_bytes text) other) (contains_text s other) ∙ ap (λ (b : Bool). b || contains_text s other) (bytes_turned (string_bytes text) other)
+text_put s n text u other = btree_set_updates_text (string_bytes text) s n true u other ∙ put_is (string_bytes text) other (contains_text s other)
+
+-- the same by hashes
+pub text_marked : (s n : Hashed (String Global)) (text : String Global) → hash.Updates string_eq s n text true → (other : List ℕ) → hash.contains_text n other ≡ (bytes_eq other (string_bytes text) || hash.contains_text s other)
+text_marked s n text u other = hash_set_updates_text (string_bytes text) s n true u other ∙ put_is (string_bytes text) other (hash.contains_text s other)
 
 -- a name is taken
 pub takes_name : (name : List ℕ) (g h : Used) → ((other : List ℕ) → has_name h other ≡ (bytes_eq other name || has_name g other)) → h.makers ≡ g.makers → h.instances ≡ g.instances → Takes (names_alone (name ∷ [])) g h

@@ -1,21 +1,15 @@
 -- Instances, each once.
-use Rattle.std.specs.Prelude.{◌≡◌, ℕ, Bool, List, [], ◌∷◌, ◌++◌, map, Vec, if◌then◌else◌}
+use Rattle.std.specs.Prelude.{◌≡◌, ℕ, bytes_eq, Bool, List, [], ◌∷◌, ◌++◌, map, Vec, if◌then◌else◌}
 use Rattle.std.specs.List.{list_any}
 use Rattle.std.specs.declared.alloc.Global.{Global}
-use Rattle.std.specs.Ordering.{nat_cmp}
-use Rattle.std.specs.declared.cmp.Ordering.{Ordering}
-use Rattle.std.specs.Cmp.Lexicographic.{slice_cmp}
-use Rattle.std.specs.BTreeSet.{BTreeSet, contains_by}
+use Rattle.std.specs.HashSet.{contains_by}
 use Rattle.wr_base.specs.Trees.{UseTree, same_use, tree_of}
 use Rattle.winmd_uses.specs.Keys.{key_of}
+use Rattle.winmd_uses.specs.Known.{Hashed}
 use Rattle.winmd_uses.specs.declared.instances.Instances.{Instances}
 
--- keys in the order of their bytes
-abbrev pub key_cmp : Vec ℕ Global → Vec ℕ Global → Ordering
-key_cmp a b = slice_cmp nat_cmp a.items b.items
-
-abbrev pub has_bytes : BTreeSet (Vec ℕ Global) → List ℕ → Bool
-has_bytes keys key = contains_by (λ k. slice_cmp nat_cmp key k.items) keys
+abbrev pub has_bytes : Hashed (Vec ℕ Global) → List ℕ → Bool
+has_bytes keys key = contains_by (λ k. bytes_eq key k.items) keys
 
 abbrev pub has_key : Instances → List ℕ → Bool
 has_key i key = has_bytes i.keys key

@@ -1,6 +1,6 @@
 pub mod Makers
 pub mod Keys
-pub mod Recent
+pub mod Known
 pub mod Instances
 pub mod Takes
 pub mod Earlier

@@ -1,25 +1,26 @@
 //! Instances, each once, in the order in which they are first used.
 
-ghost use Rattle.std.specs.Prelude.{◌≡◌, OnOk};
-ghost use Rattle.std.specs.BTreeSet.{insert_key};
+ghost use Rattle.std.specs.Prelude.{◌≡◌, OnOk, true};
+ghost use Rattle.std.specs.HashSet.{Updates};
 ghost use Rattle.wr_base.specs.Trees.{tree_of};
-ghost use Rattle.winmd_uses.specs.Instances.{Adds, HasNone, has_key, key_cmp};
+ghost use Rattle.winmd_uses.specs.Instances.{Adds, HasNone, has_key};
+ghost use Rattle.winmd_uses.specs.Known.{key_eq};
 
 use crate::keys::put_key;
 use ranked::Memory;
 use std::alloc::{AllocError, Global};
-use std::collections::BTreeSet;
+use std::collections::HashSet;
 use wr_base::TypeUse;
 
 /// Uses, and the keys of those that are there.
 #[derive(Drop)]
 pub struct Instances {
-    pub(crate) keys: BTreeSet<Vec<u8>>,
+    pub(crate) keys: HashSet<Vec<u8>>,
     pub(crate) list: Vec<TypeUse>,
 }
 
-fn mark(keys: &mut BTreeSet<Vec<u8>>, key: Vec<u8>) -> Result<(), Memory>
-    ensures { OnOk result (keys.new.keys ≡ insert_key key_cmp keys.old.keys key) }
+fn mark(keys: &mut HashSet<Vec<u8>>, key: Vec<u8>) -> Result<(), Memory>
+    ensures { OnOk result (Updates key_eq keys.old keys.new key true) }
 {
     match keys.insert(key) {
         Ok(_) => Ok(()),
@@ -32,7 +33,7 @@ impl Instances {
         ensures { HasNone result }
     {
         Instances {
-            keys: BTreeSet::new(alloc),
+            keys: HashSet::new(alloc),
             list: Vec::new(alloc),
         }
     }

@@ -1,5 +1,5 @@
 use Rattle.std.proofs.Common.{ℕ, List, Some, sym, ap, ◌∙◌, arith}
-use Rattle.std.specs.BTreeMap.{get_by_text}
+use Rattle.std.specs.HashMap.{get_by_text}
 use Rattle.wr_base.specs.Declarations.{name_of}
 use Rattle.closed_lists.specs.declared.site.PlacedDeclaration.{PlacedDeclaration}
 use Rattle.closed_lists.specs.Indexes.{names_in}

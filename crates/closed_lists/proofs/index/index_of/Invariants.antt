@@ -1,5 +1,5 @@
 use Rattle.std.proofs.Common.{◌≡◌, ℕ, List, take}
-use Rattle.std.specs.BTreeMap.{get_by_text}
+use Rattle.std.specs.HashMap.{get_by_text}
 use Rattle.closed_lists.specs.Indexes.{names_in, position}
 use Rattle.closed_lists.proofs.index.index_of.Given as goal
 

@@ -1,6 +1,6 @@
 use Rattle.std.proofs.Common.{Option, List, ℕ, Some, ap, subst, ◌∙◌}
-use Rattle.std.specs.BTreeMap.{get_by_text}
-use Rattle.std.specs.BTreeSet.{contains_text}
+use Rattle.std.specs.HashMap.{get_by_text}
+use Rattle.std.specs.HashSet.{contains_text}
 use Rattle.wr_rules.specs.Kinds.{declared}
 use Rattle.wr_rules.specs.Sites.{site_name}
 use Rattle.wr_rules.specs.Signatures.{own_id}

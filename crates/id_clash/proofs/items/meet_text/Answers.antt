@@ -1,5 +1,5 @@
 use Rattle.std.proofs.Common.{Option, ℕ, subst}
-use Rattle.std.specs.BTreeSet.{contains_text}
+use Rattle.std.specs.HashSet.{contains_text}
 use Rattle.id_clash.specs.Items.{Meets, One, is_had}
 use Rattle.id_clash.proofs.ItemLaws.{adds_one}
 use Rattle.id_clash.proofs.items.meet_text.Goals as goal

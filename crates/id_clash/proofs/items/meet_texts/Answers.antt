@@ -1,6 +1,6 @@
 use Rattle.std.proofs.Common.{List, ℕ, Some, ap, subst, sym, arith, ◌∙◌}
-use Rattle.std.specs.BTreeMap.{get_by_text}
-use Rattle.std.specs.BTreeSet.{contains_text}
+use Rattle.std.specs.HashMap.{get_by_text}
+use Rattle.std.specs.HashSet.{contains_text}
 use Rattle.id_clash.specs.Items.{Meets, Fresh, AddsTexts, is_had, texts_in}
 use Rattle.id_clash.proofs.ItemLaws.{fresh_none, adds_no, fresh_more, adds_more, text_at, whole_texts}
 use Rattle.id_clash.proofs.items.meet_texts.Goals as goal

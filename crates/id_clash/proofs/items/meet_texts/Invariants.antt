@@ -1,6 +1,6 @@
 use Rattle.std.proofs.Common.{take}
-use Rattle.std.specs.BTreeMap.{get_by_text}
-use Rattle.std.specs.BTreeSet.{contains_text}
+use Rattle.std.specs.HashMap.{get_by_text}
+use Rattle.std.specs.HashSet.{contains_text}
 use Rattle.id_clash.specs.Items.{Meets, Fresh, AddsTexts, is_had, texts_in}
 use Rattle.id_clash.proofs.items.meet_texts.Given as goal
 

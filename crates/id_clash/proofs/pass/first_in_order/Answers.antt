@@ -1,6 +1,6 @@
 use Rattle.std.proofs.Common.{arith}
-use Rattle.std.specs.BTreeMap.{get_by_text}
-use Rattle.std.specs.BTreeSet.{contains_text}
+use Rattle.std.specs.HashMap.{get_by_text}
+use Rattle.std.specs.HashSet.{contains_text}
 use Rattle.ranked.proofs.FirstLaws.{none_below, one_more_as, finished}
 use Rattle.placed_sites.specs.Views.{site_view}
 use Rattle.wr_rules.specs.Sites.{sites_of}

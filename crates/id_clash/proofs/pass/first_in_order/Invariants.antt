@@ -1,5 +1,5 @@
 use Rattle.ranked.specs.First.{IsFirst, Below}
-use Rattle.std.specs.BTreeSet.{contains_text}
+use Rattle.std.specs.HashSet.{contains_text}
 use Rattle.wr_rules.specs.Sites.{sites_of}
 use Rattle.id_clash.specs.Items.{is_had}
 use Rattle.id_clash.specs.Pass.{Passed, TakenAt}

@@ -1,6 +1,6 @@
 use Rattle.std.proofs.Common.{List, [], ◌∷◌, ◌++◌, subst, arith}
 use Rattle.std.specs.List.{flat_map}
-use Rattle.std.specs.BTreeMap.{get_by_text}
+use Rattle.std.specs.HashMap.{get_by_text}
 use Rattle.wr_base.specs.declared.type_use.TypeUse.{TypeUse}
 use Rattle.wr_base.specs.Trees.{UseTree, tree_of}
 use Rattle.id_rules.specs.Table.{Adds, instances_within}

@@ -1,5 +1,5 @@
 use Rattle.std.proofs.Common.{arith}
-use Rattle.std.specs.BTreeMap.{get_by_text}
+use Rattle.std.specs.HashMap.{get_by_text}
 use Rattle.wr_rules.specs.Uses as uses
 use Rattle.site_uses.specs.declared.used.Used.{Used}
 use Rattle.site_uses.specs.Views.{shape_view, used_view}

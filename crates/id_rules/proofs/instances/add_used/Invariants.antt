@@ -1,6 +1,6 @@
 use Rattle.std.proofs.Common.{take}
 use Rattle.std.specs.List.{flat_map}
-use Rattle.std.specs.BTreeMap.{get_by_text}
+use Rattle.std.specs.HashMap.{get_by_text}
 use Rattle.site_uses.specs.declared.used.Used.{Used}
 use Rattle.site_uses.specs.Views.{shape_view}
 use Rattle.id_rules.specs.Table.{Adds, instances_within}

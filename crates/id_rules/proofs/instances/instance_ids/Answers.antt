@@ -1,5 +1,5 @@
 use Rattle.std.proofs.Common.{arith}
-use Rattle.std.specs.BTreeMap.{get_by_text}
+use Rattle.std.specs.HashMap.{get_by_text}
 use Rattle.wr_rules.specs.Sites.{sites_of}
 use Rattle.wr_rules.specs.NameRules.{instances_at, instances_in}
 use Rattle.placed_sites.specs.Views.{site_view}

@@ -1,5 +1,5 @@
 use Rattle.std.proofs.Common.{rules, refl, not, Some, None, cond, ap, sym, ◌∙◌}
-use Rattle.std.specs.BTreeSet.{contains_text}
+use Rattle.std.specs.HashSet.{contains_text}
 use Rattle.ranked.proofs.RepeatLaws.{seen_more, repeat_more}
 use Rattle.midl_names.specs.Duplicates.{lower_name, duplicate_entry}
 use Rattle.midl_names.specs.Views.{item_of}

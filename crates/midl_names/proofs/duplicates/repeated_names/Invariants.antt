@@ -1,5 +1,5 @@
 use Rattle.std.proofs.Common.{◌↔◌, IsTrue, ℕ, List}
-use Rattle.std.specs.BTreeSet.{contains_text}
+use Rattle.std.specs.HashSet.{contains_text}
 use Rattle.ranked.specs.First.{IsFirst, Below}
 use Rattle.ranked.specs.Repeats.{StandsBefore, RepeatAt}
 use Rattle.midl_names.specs.Views.{item_of}

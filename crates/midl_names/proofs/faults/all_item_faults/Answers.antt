@@ -1,5 +1,5 @@
 use Rattle.std.proofs.Common.{rules, arith}
-use Rattle.std.specs.BTreeMap.{get_by_text}
+use Rattle.std.specs.HashMap.{get_by_text}
 use Rattle.ranked.proofs.FirstLaws.{none_below, one_more_element}
 use Rattle.midl_names.specs.Names.{ItemFaults}
 use Rattle.midl_names.specs.Views.{item_of}

@@ -1,4 +1,4 @@
-use Rattle.std.specs.BTreeMap.{get_by_text}
+use Rattle.std.specs.HashMap.{get_by_text}
 use Rattle.ranked.specs.First.{IsFirst, Below, At}
 use Rattle.midl_names.specs.Names.{ItemFaults}
 use Rattle.midl_names.specs.Views.{item_of}

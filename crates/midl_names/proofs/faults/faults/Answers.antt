@@ -1,5 +1,5 @@
 use Rattle.std.proofs.Common.{ℕ, List, Option, map, subst}
-use Rattle.std.specs.BTreeMap.{get_by_text}
+use Rattle.std.specs.HashMap.{get_by_text}
 use Rattle.ranked.specs.First.{IsFirst}
 use Rattle.ranked.proofs.FirstLaws.{union_as}
 use Rattle.midl_names.specs.declared.sort.Sort.{Sort}

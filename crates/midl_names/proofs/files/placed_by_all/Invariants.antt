@@ -1,5 +1,5 @@
 use Rattle.std.proofs.Common.{◌≡◌, ◌++◌, map}
-use Rattle.std.specs.BTreeMap.{get_by_text}
+use Rattle.std.specs.HashMap.{get_by_text}
 use Rattle.std.specs.Vec.Iter.{into_iter_items}
 use Rattle.placed_items.specs.Named.{AreNamed, ArePathed}
 use Rattle.midl_names.specs.Declares.{placed_of}

@@ -1,5 +1,5 @@
 use Rattle.std.proofs.Common.{◌≡◌, ◌≤◌, ℕ, List, map, drop, length}
-use Rattle.std.specs.BTreeMap.{get_by_text}
+use Rattle.std.specs.HashMap.{get_by_text}
 use Rattle.midl_names.specs.Counts.{count_at}
 use Rattle.midl_names.specs.Lookup.{declared_sort}
 use Rattle.midl_names.specs.Within.{IsWithin}

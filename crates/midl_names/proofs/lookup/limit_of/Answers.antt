@@ -1,5 +1,5 @@
 use Rattle.std.proofs.Common.{sym, arith}
-use Rattle.std.specs.BTreeMap.{get_by_text}
+use Rattle.std.specs.HashMap.{get_by_text}
 use Rattle.midl_names.specs.Counts.{count_at}
 use Rattle.midl_names.proofs.Within.{limits}
 use Rattle.midl_names.proofs.lookup.limit_of.Goals as goal

@@ -1,5 +1,5 @@
 use Rattle.std.proofs.Common.{◌≡◌, ◌-◌, arith, sym, subst, ◌∙◌, Some, None, IfOk, Option, take}
-use Rattle.std.specs.BTreeMap.{get_by_text}
+use Rattle.std.specs.HashMap.{get_by_text}
 use Rattle.std.proofs.lemmas.Grind.{common_steps}
 use Rattle.midl_names.specs.declared.hit.Hit.{Hit}
 use Rattle.midl_names.specs.Items.{prefix}

@@ -1,5 +1,5 @@
 use Rattle.std.proofs.Common.{◌≡◌, ◌≤◌, ◌++◌, length, take, string_bytes}
-use Rattle.std.specs.BTreeMap.{get_by_text}
+use Rattle.std.specs.HashMap.{get_by_text}
 use Rattle.midl_names.specs.Items.{prefix}
 use Rattle.midl_names.specs.Lookup.{look_from, look_up}
 use Rattle.midl_names.specs.Views.{parts_of}

@@ -1,5 +1,5 @@
 use Rattle.std.proofs.Common.{◌≡◌, map, take}
-use Rattle.std.specs.BTreeMap.{get_by_text}
+use Rattle.std.specs.HashMap.{get_by_text}
 use Rattle.std.specs.List.{All, flat_map}
 use Rattle.midl_tree.specs.Views.{fields_view}
 use Rattle.midl_names.specs.Members.{fields_of}

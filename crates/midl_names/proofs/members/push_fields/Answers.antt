@@ -1,5 +1,5 @@
 use Rattle.std.proofs.Common.{arith}
-use Rattle.std.specs.BTreeMap.{get_by_text}
+use Rattle.std.specs.HashMap.{get_by_text}
 use Rattle.midl_tree.specs.Views.{type_view}
 use Rattle.midl_names.specs.Resolved.{resolved}
 use Rattle.midl_names.specs.Views.{parts_of}

@@ -1,5 +1,5 @@
 use Rattle.std.proofs.Common.{◌≡◌, ℕ, List, Option, map, ap, subst, ◌∙◌}
-use Rattle.std.specs.BTreeMap.{get_by_text}
+use Rattle.std.specs.HashMap.{get_by_text}
 use Rattle.midl_tree.specs.declared.nodes.File.{File}
 use Rattle.midl_names.specs.declared.sort.Sort.{Sort}
 use Rattle.midl_names.specs.Declares.{placed_of}

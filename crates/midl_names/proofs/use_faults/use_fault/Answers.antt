@@ -1,6 +1,6 @@
 use Rattle.std.proofs.Common.{◌≡◌, ap, sym, subst, ◌∙◌, arith, IfOk, map, Option}
 use Rattle.std.proofs.lemmas.List.{length-map}
-use Rattle.std.specs.BTreeMap.{get_by_text}
+use Rattle.std.specs.HashMap.{get_by_text}
 use Rattle.ranked.specs.Entries.{Entry}
 use Rattle.midl_tree.specs.declared.nodes.TypeNode.TheVariants.{rolls-Named}
 use Rattle.midl_tree.specs.declared.nodes.TypeNode.TheFolds.{fold-roll-TypeNode}

@@ -1,5 +1,5 @@
 use Rattle.std.proofs.Common.{rules, arith, subst, List}
-use Rattle.std.specs.BTreeMap.{get_by_text}
+use Rattle.std.specs.HashMap.{get_by_text}
 use Rattle.ranked.specs.First.{IsFirst, Among}
 use Rattle.ranked.proofs.FirstLaws.{none_below}
 use Rattle.midl_tree.specs.Trees.{TypeTree}

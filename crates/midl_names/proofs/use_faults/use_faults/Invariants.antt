@@ -1,7 +1,7 @@
 use Rattle.ranked.specs.First.{IsFirst, Below, At}
 use Rattle.midl_names.specs.Faults.{Gives}
 use Rattle.midl_names.specs.Views.{item_of}
-use Rattle.std.specs.BTreeMap.{get_by_text}
+use Rattle.std.specs.HashMap.{get_by_text}
 use Rattle.midl_tree.specs.Views.{type_view}
 use Rattle.midl_names.specs.Uses.{use_fault}
 use Rattle.midl_names.proofs.use_faults.use_faults.Given as goal

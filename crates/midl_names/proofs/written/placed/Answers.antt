@@ -1,5 +1,5 @@
 use Rattle.std.proofs.Common.{◌≡◌, arith, map}
-use Rattle.std.specs.BTreeMap.{get_by_text}
+use Rattle.std.specs.HashMap.{get_by_text}
 use Rattle.std.proofs.lemmas.Grind.{common_steps}
 use Rattle.std.proofs.lemmas.List.Elements.{All-push}
 use Rattle.placed_items.specs.declared.placed.PlacedItem.{PlacedItem}

@@ -1,5 +1,5 @@
 use Rattle.std.proofs.Common.{◌≡◌, map, take}
-use Rattle.std.specs.BTreeMap.{get_by_text}
+use Rattle.std.specs.HashMap.{get_by_text}
 use Rattle.placed_items.specs.Named.{AreNamed}
 use Rattle.midl_names.specs.Declares.{placed_of}
 use Rattle.midl_names.specs.Views.{item_of}

@@ -8,5 +8,5 @@ use Rattle.namespace_rules.proofs.spaces.add_name.Goals as goal
 
 pub returns : goal.returns
 returns c =
-    on_ok_then c.put.result _ _
-    (λ u text. ap (λ (ks : List (String Global)). list_any (λ k. begins text (string_bytes k)) ks) u ∙ any_inserted (begins text) c.args.set.now.keys c.args.name) c.put.ensures.keys
+    on_ok_then c.put_name.result _ _
+    (λ u text. ap (λ (ks : List (String Global)). list_any (λ k. begins text (string_bytes k)) ks) u ∙ any_inserted (begins text) c.args.set.now.keys c.args.name) c.put_name.ensures

@@ -1,6 +1,5 @@
-use Rattle.namespace_rules.specs.Spaces.{holds_in}
+use Rattle.namespace_rules.specs.Spaces.{holds_in, SpacesTo}
 use Rattle.wr_rules.specs.Sites.{sites_of}
-use Rattle.namespace_rules.proofs.SpaceLaws.{SpacesTo}
 use Rattle.namespace_rules.proofs.spaces.names_of.Given as goal
 
 abbrev pub invariant-loop-i : goal.invariant-loop-i

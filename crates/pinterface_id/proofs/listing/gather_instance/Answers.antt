@@ -1,5 +1,5 @@
 use Rattle.std.proofs.Common.{sym, ap, ◌∙◌}
-use Rattle.std.specs.BTreeSet.{contains_text}
+use Rattle.std.specs.HashSet.{contains_text}
 use Rattle.wr_base.specs.Trees.{tree_of, text_of_tree}
 use Rattle.wr_base.proofs.TreeLaws.{text_of-tree_of}
 use Rattle.wr_rules.specs.Signatures.{id_of}

@@ -1,5 +1,5 @@
 use Rattle.std.proofs.Common.{sym, ap, ◌∙◌}
-use Rattle.std.specs.BTreeSet.{contains_text}
+use Rattle.std.specs.HashSet.{contains_text}
 use Rattle.wr_rules.specs.Kinds.{named}
 use Rattle.wr_rules.specs.Signatures.{own_id}
 use Rattle.pinterface_id.proofs.Gatherings.{gathers_known_alone}

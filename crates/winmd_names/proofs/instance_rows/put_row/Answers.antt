@@ -8,4 +8,4 @@ use Rattle.winmd_names.proofs.instance_rows.put_row.Goals as goal
 pub returns : goal.returns
 returns c =
     on_ok_then c.put.result
-    (λ e u. row_put u (tree_of c.args.ty.now) c.put_key.new.into c.args.row c.args.rows.now.entries c.put.new.rows.entries (c.in_ok-put_key.ensures ∙ ap (λ (xs : List ℕ). xs ++ key_of (tree_of c.args.ty.now)) c.new-key.ensures.items) e) c.put.ensures
+    (λ e u. row_put u (tree_of c.args.ty.now) c.put_key.new.into c.args.row c.args.rows.now c.put.new.rows (c.in_ok-put_key.ensures ∙ ap (λ (xs : List ℕ). xs ++ key_of (tree_of c.args.ty.now)) c.new-key.ensures.items) e) c.put.ensures

@@ -1,9 +1,9 @@
 use Rattle.std.proofs.Common.{◌≡◌, ℕ, List, Option, Some, Bool, true, false, cond, string_bytes, ap, ◌∙◌, refl}
-use Rattle.std.specs.BTreeMap.{get_by_text}
+use Rattle.std.specs.HashMap.{get_by_text}
 use Rattle.std.specs.Map.{update}
 use Rattle.std.specs.Option.{unwrap_or}
 use Rattle.std.specs.Str.{bytes_eq}
-use Rattle.std.proofs.lemmas.Map.Text.{btree_map_updates_text}
+use Rattle.std.proofs.lemmas.Map.Text.{hash_map_updates_text}
 use Rattle.winmd_set.proofs.counts.set_count.Goals as goal
 
 unwrapped : (b : Bool) (n : ℕ) (o : Option ℕ) → unwrap_or (cond b (Some n) o) 0 ≡ cond b n (unwrap_or o 0)
@@ -17,4 +17,4 @@ noted_by own n old new step name = ap (λ o. unwrap_or o 0) (step name) ∙ unwr
 pub returns : goal.returns
 returns c =
     noted_by (string_bytes c.args.text) c.args.count (get_by_text c.args.counts.now) (get_by_text c.insert.new.self)
-    (btree_map_updates_text (string_bytes c.args.text) c.args.counts.now c.insert.new.self (Some c.args.count) c.in_ok-insert.ensures.updates)
+    (hash_map_updates_text (string_bytes c.args.text) c.args.counts.now c.insert.new.self (Some c.args.count) c.in_ok-insert.ensures.updates)

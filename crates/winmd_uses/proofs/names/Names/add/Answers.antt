@@ -1,10 +1,15 @@
-use Rattle.winmd_uses.proofs.RecentLaws.{put_new, there_after}
+use Rattle.winmd_uses.proofs.KnownLaws.{on_ok, put_there, there_marked, there_still}
+use Rattle.winmd_uses.proofs.TakeLaws.{text_put}
 use Rattle.winmd_uses.proofs.names.Names.add.Goals as goal
 
 pub invariant_of-self-2 : goal.invariant_of-self-2
 invariant_of-self-2 c =
     let names = c.args.self.now in
-    record { there = there_after c.put.result names.set c.put.new.set c.in_ok-from_str.field-0 names.recent.items c.put.ensures.added c.put.ensures.unchanged names.there }
+    let put = c.in_ok-put.ensures.added in
+    record {
+      there = there_marked c.mark.result c.put.new.set names.known c.mark.new.known c.args.name c.args.again c.requires (put_there names.set c.put.new.set c.args.name put) c.mark.ensures.added c.mark.ensures.unchanged
+          (there_still names.set c.put.new.set c.args.name names.known put names.there);
+    }
 
 pub returns : goal.returns
-returns c = put_new c.put.result c.args.self.now.set c.put.new.set c.in_ok-from_str.field-0 c.args.name.now c.in_ok-from_str.ensures.ok c.put.ensures.added
+returns c = on_ok c.mark.result _ (text_put c.args.self.now.set c.put.new.set c.args.name c.in_ok-put.ensures.added)
