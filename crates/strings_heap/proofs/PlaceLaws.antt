@@ -1,6 +1,6 @@
 -- The places at the blocks' ends, and the first zero from a place on.
-use Rattle.std.proofs.Common.{◌≡◌, ℕ, zero, suc, ◌+◌, ◌-◌, ◌*◌, ◌/◌, ◌<◌, ◌≤◌, ◌==◌, min, Bool, true, false, cond, not, eqb, List, [], ◌∷◌, ◌++◌, length, get_or, take, drop, Some, None, position, refl, sym, ap, subst, ◌∙◌, arith, inl, inr, length-take-le, length-drop, length-append, get_or-take, drop-drop, ◌%◌, ◌^◌, ◌⊎◌}
-use Rattle.std.specs.List.{prefix_len, position_or_len}
+use Rattle.std.proofs.Common.{◌≡◌, ℕ, zero, suc, ◌+◌, ◌-◌, ◌*◌, ◌/◌, ◌<◌, ◌≤◌, ◌==◌, min, Bool, true, false, cond, not, eqb, List, [], ◌∷◌, ◌++◌, length, get_or, take, drop, Some, None, position, sym, ap, subst, ◌∙◌, arith, inl, inr, length-take-le, length-drop, get_or-take, drop-drop, ◌%◌, ◌^◌, ◌⊎◌}
+use Rattle.std.specs.List.{position_or_len}
 use Rattle.std.proofs.lemmas.Bool.{cases_lt, ne_eqb, eq-eqb}
 use Rattle.std.proofs.lemmas.List.{drop_all, length_push, get_or_push, get_or_append_left}
 use Rattle.std.proofs.lemmas.List.Quantifiers.{position-Some}
@@ -9,16 +9,16 @@ use Rattle.std.proofs.lemmas.Nat.Bits.{bit_at-zero}
 use Rattle.md_heaps.proofs.TextLaws.{no_zero}
 use Rattle.strings_heap.specs.declared.place.Place.{Place}
 use Rattle.strings_heap.specs.Places.{IsPlace, ArePlaces, first_zero}
-use Rattle.strings_heap.specs.Texts.{mark, begins_text, AreMarks}
+use Rattle.strings_heap.specs.Texts.{mark, begins_text}
 
 -- ---- a place
 
 pub end_place : (bytes : List ℕ) (place : Place) → place.marks ≡ 0 → place.zero ≡ length bytes → IsPlace bytes (length bytes) place
 end_place bytes place none end = record {
-    marks = λ k below.
-        ap (λ (n : ℕ). n / 2 ^ k % 2) none ∙ bit_at-zero k ∙ sym (ap (λ (x : List ℕ). mark (begins_text x)) (drop_all (length bytes + k) bytes (omega arith)));
-    zero = end ∙ omega (arith, ap (position_or_len (λ b. b == 0)) (drop_all (length bytes) bytes (omega arith)));
-  }
+  marks = λ k below.
+      ap (λ (n : ℕ). n / 2 ^ k % 2) none ∙ bit_at-zero k ∙ sym (ap (λ (x : List ℕ). mark (begins_text x)) (drop_all (length bytes + k) bytes (omega arith)));
+  zero = end ∙ omega (arith, ap (position_or_len (λ b. b == 0)) (drop_all (length bytes) bytes (omega arith)));
+}
 
 pub first_zero-here : (bytes : List ℕ) (at : ℕ) → at < length bytes → get_or bytes at 0 ≡ 0 → at ≡ first_zero bytes at
 first_zero-here bytes at within zero_there =
@@ -41,11 +41,11 @@ pub record Passed (bytes : List ℕ) (places : List Place) (at : ℕ) (place : P
 
 pub passed_first : (bytes : List ℕ) (places : List Place) (place : Place) → places ≡ place ∷ [] → IsPlace bytes (length bytes) place → Passed bytes places (length bytes) place
 passed_first bytes places place is h = subst (λ (x : List Place). Passed bytes x (length bytes) place) (sym is) (record {
-    within = omega arith;
-    here = h;
-    count = omega arith;
-    each = first;
-  })
+  within = omega arith;
+  here = h;
+  count = omega arith;
+  each = first;
+})
   where
     first : (p : ℕ) (d : Place) → p < 1 → IsPlace bytes (min (64 * ((length bytes + 63) / 64 - p)) (length bytes)) (get_or (place ∷ []) p d)
     first zero d below =
@@ -56,11 +56,11 @@ passed_first bytes places place is h = subst (λ (x : List Place). Passed bytes 
 pub passed_more : (bytes : List ℕ) (places more : List Place) (at start : ℕ) (old place : Place) → Passed bytes places at old → 0 < at → start ≡ (at - 1) / 64 * 64
     → IsPlace bytes start place → more ≡ places ++ place ∷ [] → Passed bytes more start place
 passed_more bytes places more at start old place h some is here grown = subst (λ (x : List Place). Passed bytes x start place) (sym grown) (record {
-    within = omega (arith, h.within, is);
-    here = here;
-    count = omega (arith, h.count, is, some, length_push places place);
-    each = λ p d below. by p d below (cases_lt p (length places));
-  })
+  within = omega (arith, h.within, is);
+  here = here;
+  count = omega (arith, h.count, is, some, length_push places place);
+  each = λ p d below. by p d below (cases_lt p (length places));
+})
   where
     by : (p : ℕ) (d : Place) → p < length (places ++ place ∷ []) → (p < length places) ⊎ (length places ≤ p)
         → IsPlace bytes (min (64 * ((length bytes + 63) / 64 - p)) (length bytes)) (get_or (places ++ place ∷ []) p d)
@@ -93,8 +93,8 @@ first_zero-found bytes at stop count order within found =
     let here : count < stop - at = omega (arith, first.0, long) in
     let is : position_or_len (λ b. b == 0) rest ≡ count =
     position_or_len_is (λ b. b == 0) rest count 0 (omega (arith, here, within, length-drop at bytes))
-        (λ k below. ap (λ (b : ℕ). b == 0) (sym (get_or-take (stop - at) rest k 0 (omega (arith, below, here)))) ∙ first.2 k below)
-        (λ inside. ap (λ (b : ℕ). b == 0) (sym (get_or-take (stop - at) rest count 0 here)) ∙ first.1) in
+    (λ k below. ap (λ (b : ℕ). b == 0) (sym (get_or-take (stop - at) rest k 0 (omega (arith, below, here)))) ∙ first.2 k below)
+    (λ inside. ap (λ (b : ℕ). b == 0) (sym (get_or-take (stop - at) rest count 0 here)) ∙ first.1) in
     omega (arith, is)
 
 skipped : (n : ℕ) (bytes : List ℕ) → n ≤ length bytes → ((k : ℕ) → k < n → eqb (get_or bytes k 0) 0 ≡ false) → position_or_len (λ b. b == 0) bytes ≡ n + position_or_len (λ b. b == 0) (drop n bytes)
@@ -114,7 +114,7 @@ first_zero-later bytes at stop order within none =
     let fits : size ≤ length rest = omega (arith, order, within, length-drop at bytes) in
     let long : length (take size rest) ≡ size = length-take-le size rest fits in
     let is = skipped size rest fits (λ k below.
-        ne_eqb _ _ (λ e. no_zero (take size rest) none k 0 (omega (arith, below, long)) (get_or-take size rest k 0 below ∙ e))) in
+    ne_eqb _ _ (λ e. no_zero (take size rest) none k 0 (omega (arith, below, long)) (get_or-take size rest k 0 below ∙ e))) in
     let there : drop size rest ≡ drop stop bytes = drop_twice in
     omega (arith, is, ap (position_or_len (λ b. b == 0)) there, order)
   where

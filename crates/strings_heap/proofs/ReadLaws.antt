@@ -1,14 +1,14 @@
 -- What is read at an index, by where texts begin and end.
-use Rattle.std.proofs.Common.{◌≡◌, ℕ, ◌+◌, ◌-◌, ◌<◌, ◌≤◌, Bool, true, false, cond, List, length, take, drop, Option, Some, None, Result, Ok, Err, refl, sym, ap, subst, ◌∙◌, arith, length-drop}
+use Rattle.std.proofs.Common.{◌≡◌, ℕ, ◌-◌, ◌<◌, ◌≤◌, Bool, true, false, cond, List, length, take, drop, Option, Some, None, Ok, Err, refl, sym, ap, subst, ◌∙◌, arith, length-drop}
 use Rattle.std.specs.Str.{is_utf8, IsUtf8}
 use Rattle.std.proofs.lemmas.Bool.{lt-ltb, le-ltb}
 use Rattle.std.proofs.lemmas.Str.{is_utf8-from_IsUtf8}
-use Rattle.md_heaps.specs.Faults.{ImageFault, past_heap, HeapText}
+use Rattle.md_heaps.specs.Faults.{past_heap, HeapText}
 use Rattle.md_heaps.specs.Reading.{until_zero, ended, text_at}
 use Rattle.md_schema.specs.Faults.{fault_at}
 use Rattle.strings_heap.specs.Places.{first_zero}
 use Rattle.strings_heap.specs.Texts.{begins_text, is_ended_text}
-use Rattle.strings_heap.proofs.TextLaws.{Begun, begun, Stands, until_stands}
+use Rattle.strings_heap.proofs.TextLaws.{begun, until_stands}
 
 -- an index past the heap
 pub text_at-past : (heap : List ℕ) (at : ℕ) → length heap ≤ at → text_at heap at ≡ Err past_heap

@@ -1,5 +1,5 @@
 -- Whether a text begins at a place, as the pass and the look-up find it.
-use Rattle.std.proofs.Common.{◌≡◌, ℕ, ◌+◌, ◌-◌, ◌*◌, ◌/◌, ◌%◌, ◌<◌, ◌≤◌, min, Bool, true, false, MatchBool, List, ◌∷◌, length, get_or, take, drop, refl, sym, ap, subst, ◌∙◌, arith, get_or-drop, drop-drop}
+use Rattle.std.proofs.Common.{◌≡◌, ℕ, ◌+◌, ◌-◌, ◌*◌, ◌/◌, ◌%◌, ◌<◌, ◌≤◌, min, Bool, true, false, MatchBool, List, ◌∷◌, length, get_or, take, drop, sym, ap, subst, ◌∙◌, arith, get_or-drop, drop-drop}
 use Rattle.std.specs.Int.{bit_at}
 use Rattle.std.specs.Str.{IsUtf8, continuation_len}
 use Rattle.std.proofs.lemmas.Bool.{MatchBool-at_true, MatchBool-at_false, false_from_ne_true}
@@ -45,7 +45,7 @@ begins_none bytes tail at size found same wide is cases test =
     let none : ¬ (Whole tail size) = MatchBool-at_false (Whole tail size) (¬ (Whole tail size)) test cases in
     let lead = lead_is bytes at in
     sym (false_from_ne_true (begins_text (drop at bytes)) (λ h.
-        none (subst (λ (x : List ℕ). Whole x size) (sym same) (begins_text-whole (drop at bytes) size (is ∙ ap (λ (n : ℕ). continuation_len n + 1) (sym lead)) (omega (arith, lead, wide)) h))))
+    none (subst (λ (x : List ℕ). Whole x size) (sym same) (begins_text-whole (drop at bytes) size (is ∙ ap (λ (n : ℕ). continuation_len n + 1) (sym lead)) (omega (arith, lead, wide)) h))))
 
 -- ---- by the places
 

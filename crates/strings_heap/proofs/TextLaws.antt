@@ -1,13 +1,13 @@
 -- Where a text begins, by what stands behind.
-use Rattle.std.proofs.Common.{◌≡◌, ℕ, zero, suc, ◌+◌, ◌-◌, ◌<◌, ◌≤◌, Bool, true, false, cond, not, eqb, List, [], ◌∷◌, ◌++◌, length, get_or, take, drop, Option, Some, None, refl, sym, ap, subst, ◌∙◌, arith, inl, inr, length-append, length-drop, append-nil, append_assoc, take-append-drop, length-take-le, take-take, take_at, drop_at}
-use Rattle.std.specs.List.{prefix_len, position_or_len}
+use Rattle.std.proofs.Common.{◌≡◌, ℕ, zero, suc, ◌+◌, ◌<◌, ◌≤◌, Bool, true, false, cond, not, eqb, List, [], ◌∷◌, ◌++◌, length, get_or, take, drop, Option, Some, None, refl, sym, ap, subst, ◌∙◌, arith, inl, inr, length-append, append-nil, take-append-drop, length-take-le, take-take, take_at}
+use Rattle.std.specs.List.{position_or_len}
 use Rattle.std.specs.Str.{IsUtf8, is_utf8, continuation_len}
 use Rattle.std.specs.Char.{IsScalar}
 use lib.Utf8.{scalar, scalars, encode, encodes, scalar_cases, low_scalar}
 use Rattle.std.proofs.str.Laws as laws
-use Rattle.std.proofs.lemmas.Bool.{cases_lt, cases_Bool, and_parts, ne_eqb, eq-eqb, lt-ltb, le-ltb, false_from_ne_true}
+use Rattle.std.proofs.lemmas.Bool.{cases_lt, and_parts, ne_eqb}
 use Rattle.std.proofs.lemmas.Grind.{get_or_default_zero}
-use Rattle.std.proofs.lemmas.List.{nil_from_length, get_or_append_left}
+use Rattle.std.proofs.lemmas.List.{nil_from_length}
 use Rattle.std.proofs.lemmas.Str.{IsUtf8-nil, IsUtf8-append, IsUtf8-encode, IsUtf8-past_char, IsUtf8-from_is_utf8, is_utf8-from_IsUtf8, encode_ascii, inside_one, byte_from_char}
 use Rattle.md_heaps.specs.Reading.{until_zero, longer}
 use Rattle.md_heaps.specs.Texts.{HasNoZero}

@@ -2,11 +2,11 @@
 //! and which of its places begin one is found in a single pass, and a look-up then takes a few steps, however long the text.
 #![tactic(auto)]
 
-mod marks;
-mod place;
 mod characters;
-mod pass;
-mod lookup;
 mod heap;
+mod lookup;
+mod marks;
+mod pass;
+mod place;
 
 pub use heap::StringsHeap;

@@ -1,4 +1,4 @@
-use Rattle.std.proofs.Common.{◌≡◌, ℕ, ◌+◌, ◌-◌, ◌*◌, ◌/◌, ◌==◌, List, length, min, position, ap, sym, ◌∙◌, arith}
+use Rattle.std.proofs.Common.{◌≡◌, ℕ, ◌+◌, ◌*◌, ◌/◌, ◌==◌, List, length, min, position, ap, sym, ◌∙◌, arith}
 use Rattle.strings_heap.specs.Places.{first_zero}
 use Rattle.strings_heap.proofs.PlaceLaws.{first_zero-found, first_zero-later}
 use Rattle.strings_heap.proofs.StepLaws.{place_there}
@@ -16,4 +16,4 @@ returns-in-None c =
     place.zero
     ∙ ap (λ (n : ℕ). first_zero c.args.bytes.now n) stop
     ∙ first_zero-later c.args.bytes.now c.args.at c.min-stop.result (omega (arith, c.min-stop.ensures, c.requires.within)) (omega (arith, c.min-stop.ensures))
-        (ap (λ (x : List ℕ). position (λ (b : ℕ). b == 0) x) (sym c.between.ensures) ∙ sym c.first_zero.ensures ∙ c.in-None.is)
+    (ap (λ (x : List ℕ). position (λ (b : ℕ). b == 0) x) (sym c.between.ensures) ∙ sym c.first_zero.ensures ∙ c.in-None.is)

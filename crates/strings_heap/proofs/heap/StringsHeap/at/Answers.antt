@@ -1,7 +1,7 @@
-use Rattle.std.proofs.Common.{◌≡◌, ℕ, ◌-◌, ◌∙◌, Ok, List, take, drop, ap, sym, subst, arith}
+use Rattle.std.proofs.Common.{ℕ, ◌-◌, ◌∙◌, Ok, List, take, drop, ap, sym, subst, arith}
 use Rattle.std.specs.Str.{IsUtf8}
 use Rattle.md_heaps.specs.Reading.{text_at}
-use Rattle.strings_heap.proofs.ReadLaws.{Text, text_at-some}
+use Rattle.strings_heap.proofs.ReadLaws.{text_at-some}
 use Rattle.strings_heap.proofs.heap.StringsHeap.at.Goals as goal
 
 pub text_between-requires-clause-within : goal.text_between-requires-clause-within
