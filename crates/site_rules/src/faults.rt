@@ -5,6 +5,7 @@ ghost use Rattle.ranked.specs.First.{IsFirst, Among, Or};
 ghost use Rattle.wr_rules.specs.Sites.{sites_of};
 ghost use Rattle.site_rules.specs.SiteRules.{Depths, Stands, Names, Parts, SiteRules};
 
+use crate::on_uses::{AsStanding, AtDepth};
 use member_rules::OverloadArity;
 use part_rules::{
     DefaultMissing, EnumRange, EnumRepeat, FieldRepeat, ParamRepeat, StaticMembers, StructEmpty,
@@ -12,50 +13,8 @@ use part_rules::{
 use placed_sites::{Both, first_in};
 use ranked::earlier;
 use std::alloc::{AllocError, Global};
-use use_rules::{
-    EventDelegate, EventType, ExclusiveUse, FieldType, InterfaceWanted, ReferenceArgument,
-    Unresolved, UseKind, WrongKind,
-};
+use use_rules::{BothOnUses, OnUses};
 use wr_base::{PlacedTypes, Refusal};
-
-// Rules on uses at any depth.
-fn depths(alloc: Global, placed: &PlacedTypes) -> Result<Option<Refusal>, AllocError>
-    ensures { IfOk result (IsFirst (Among (sites_of placed.now.types placed.now.places) (Depths placed.now.types))) }
-{
-    let types = &placed.types;
-    let rules = Both {
-        first: Unresolved { types },
-        second: Both {
-            first: WrongKind { types },
-            second: Both {
-                first: ReferenceArgument { types },
-                second: Both {
-                    first: UseKind { types },
-                    second: ExclusiveUse { types },
-                },
-            },
-        },
-    };
-    first_in(alloc, &rules, placed)
-}
-
-// Rules on uses as they stand.
-fn stands(alloc: Global, placed: &PlacedTypes) -> Result<Option<Refusal>, AllocError>
-    ensures { IfOk result (IsFirst (Among (sites_of placed.now.types placed.now.places) (Stands placed.now.types))) }
-{
-    let types = &placed.types;
-    let rules = Both {
-        first: FieldType { types },
-        second: Both {
-            first: EventType { types },
-            second: Both {
-                first: EventDelegate { types },
-                second: InterfaceWanted { types },
-            },
-        },
-    };
-    first_in(alloc, &rules, placed)
-}
 
 // Rules on names that are repeated.
 fn names(alloc: Global, placed: &PlacedTypes) -> Result<Option<Refusal>, AllocError>
@@ -94,9 +53,12 @@ fn parts(alloc: Global, placed: &PlacedTypes) -> Result<Option<Refusal>, AllocEr
 fn on_uses(alloc: Global, placed: &PlacedTypes) -> Result<Option<Refusal>, AllocError>
     ensures { IfOk result (IsFirst (Or (Among (sites_of placed.now.types placed.now.places) (Depths placed.now.types)) (Among (sites_of placed.now.types placed.now.places) (Stands placed.now.types)))) }
 {
-    let first = depths(alloc, placed)?;
-    let second = stands(alloc, placed)?;
-    Ok(earlier(first, second))
+    let types = &placed.types;
+    let rules = BothOnUses {
+        first: AtDepth { types },
+        second: AsStanding { types },
+    };
+    first_in(alloc, &OnUses { rule: rules }, placed)
 }
 
 fn on_parts(alloc: Global, placed: &PlacedTypes) -> Result<Option<Refusal>, AllocError>

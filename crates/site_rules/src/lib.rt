@@ -2,5 +2,6 @@
 #![tactic(auto)]
 
 mod faults;
+mod on_uses;
 
 pub use faults::first_site_fault;

@@ -1,5 +1,5 @@
 -- Weights of uses, use by use.
-use Rattle.std.proofs.Common.{◌≡◌, ◌+◌, ◌<◌, ℕ, List, [], ◌∷◌, ◌++◌, Result, Ok, Err, IfOk, map, sum, sum_by, take, length, get_or, refl, sym, ap, ◌∙◌, arith}
+use Rattle.std.proofs.Common.{◌≡◌, ◌+◌, ◌<◌, ℕ, List, [], ◌∷◌, ◌++◌, map, sum, sum_by, take, length, get_or, refl, sym, ap, ◌∙◌, arith}
 use Rattle.std.proofs.lemmas.List.{take_more}
 use Rattle.std.proofs.lemmas.List.Sums.{sum_by-cons, sum-map}
 use Rattle.wr_base.specs.declared.type_use.TypeUse.{TypeUse}
@@ -81,7 +81,3 @@ viewed_more {X = X} f view xs i x l e =
     let r = sum_by-cons f (view x) [] in
     let z : sum_by f [] ≡ 0 = refl in
     omega (arith, p, q, r, z)
-
-pub if_ok_then : {X E : Type 0} (r : Result X E) (P Q : X → Type 0) → ((x : X) → P x → Q x) → IfOk r P → IfOk r Q
-if_ok_then (Ok x) P Q f h = f x h
-if_ok_then (Err e) P Q f h = tt

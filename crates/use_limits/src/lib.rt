@@ -5,4 +5,4 @@ mod pass;
 mod weights;
 
 pub use pass::first_past_uses;
-pub use weights::{Bytes, UseWeight, Words, weigh_site};
+pub use weights::{Bytes, UseWeight, Words, weigh_used};

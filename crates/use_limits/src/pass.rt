@@ -11,10 +11,11 @@ ghost use Rattle.set_limits.specs.Counts.{capped};
 ghost use Rattle.set_limits.specs.Pass.{Past, IsStep};
 ghost use Rattle.use_limits.specs.Past.{either_past, PastUses};
 
-use crate::weights::{Bytes, Words, add, weigh_site};
+use crate::weights::{Bytes, Words, add, weigh_used};
 use place_order::{Stand, in_place_order};
 use placed_sites::{Site, refuse_if};
 use ranked::earlier;
+use site_uses::uses_at;
 use std::alloc::{AllocError, Global};
 use wr_base::{Code, PlacedTypes, Refusal};
 
@@ -42,25 +43,14 @@ fn site_of<'a>(types: &'a PlacedTypes, stands: &[Stand], i: usize) -> Site<'a>
     Site::at(types, stand.number)
 }
 
-fn words_in(alloc: Global, site: &Site) -> Result<u64, AllocError>
-    ensures { IfOk result (λ n. n ≡ capped (words_in (site_view site.now))) }
-{
-    weigh_site(alloc, &Words, site)
-}
-
-fn bytes_in(alloc: Global, site: &Site) -> Result<u64, AllocError>
-    ensures { IfOk result (λ n. n ≡ capped (bytes_in (site_view site.now))) }
-{
-    weigh_site(alloc, &Bytes, site)
-}
-
 // The totals with a declaration more.
 fn with_site(alloc: Global, totals: Totals, site: &Site) -> Result<Totals, AllocError>
     ensures words { IfOk result (λ next. (S : ℕ) → totals.words ≡ capped S → next.words ≡ capped (S + words_in (site_view site.now))) }
     ensures bytes { IfOk result (λ next. (S : ℕ) → totals.bytes ≡ capped S → next.bytes ≡ capped (S + bytes_in (site_view site.now))) }
 {
-    let words = words_in(alloc, site)?;
-    let bytes = bytes_in(alloc, site)?;
+    let used = uses_at(alloc, site)?;
+    let words = weigh_used(&Words, used.as_slice());
+    let bytes = weigh_used(&Bytes, used.as_slice());
     Ok(Totals {
         words: add(totals.words, words),
         bytes: add(totals.bytes, bytes),

@@ -1,18 +1,14 @@
-//! What the uses of a declaration weigh. A sum that is more than a `u64` holds stays at the greatest.
+//! What uses weigh. A sum that is more than a `u64` holds stays at the greatest.
 
-ghost use Rattle.std.specs.Prelude.{◌≡◌, ◌+◌, ℕ, List, IfOk, map};
+ghost use Rattle.std.specs.Prelude.{◌≡◌, ◌+◌, ℕ, List, map};
 ghost use Rattle.std.specs.List.{sum_by};
 ghost use Rattle.wr_base.specs.Trees.{tree_of, uses_of, within, among};
-ghost use Rattle.wr_rules.specs.Uses.{uses_at};
 ghost use Rattle.wr_rules.specs.UseRules.{inner};
-ghost use Rattle.placed_sites.specs.Views.{site_view};
 ghost use Rattle.site_uses.specs.Views.{shape_view, used_view};
 ghost use Rattle.set_limits.specs.Counts.{capped};
 ghost use Rattle.use_limits.specs.Weights.{weight_of, weight_at};
 
-use placed_sites::Site;
-use site_uses::{Shape, Used, shape_of, uses_at};
-use std::alloc::{AllocError, Global};
+use site_uses::{Shape, Used, shape_of};
 use wr_base::TypeUse;
 
 /// What a use weighs by itself.
@@ -109,7 +105,8 @@ fn weigh_shape<W: UseWeight>(weight: &W, shape: &Shape) -> u64
     add(own, inside)
 }
 
-fn weigh_used<'a, W: UseWeight>(weight: &W, used: &[Used<'a>]) -> u64
+/// What these uses weigh, each with what is within it.
+pub fn weigh_used<W: UseWeight>(weight: &W, used: &[Used]) -> u64
     ensures { result ≡ capped (sum_by (weight_at (W.weigh weight.now)) (map used_view used.now)) }
 {
     let mut total = 0u64;
@@ -117,12 +114,4 @@ fn weigh_used<'a, W: UseWeight>(weight: &W, used: &[Used<'a>]) -> u64
         total = add(total, weigh_shape(weight, &one.shape));
     }
     total
-}
-
-/// What all uses of a declaration weigh, each with what is within it.
-pub fn weigh_site<W: UseWeight>(alloc: Global, weight: &W, site: &Site) -> Result<u64, AllocError>
-    ensures { IfOk result (λ total. total ≡ capped (sum_by (weight_at (W.weigh weight.now)) (uses_at (site_view site.now)))) }
-{
-    let used = uses_at(alloc, site)?;
-    Ok(weigh_used(weight, used.as_slice()))
 }

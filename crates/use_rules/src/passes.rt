@@ -3,12 +3,12 @@
 ghost use Rattle.std.specs.Prelude.{◌≡◌, map, IfOk};
 ghost use Rattle.ranked.specs.First.{IsFirst, Among};
 ghost use Rattle.wr_rules.specs.Uses.{uses_at};
-ghost use Rattle.placed_sites.specs.Views.{site_view};
 ghost use Rattle.site_uses.specs.Views.{used_view};
 
-use placed_sites::{Site, refuse_if};
+use crate::gathered::SiteUses;
+use placed_sites::refuse_if;
 use ranked::earlier;
-use site_uses::{UseTest, Used, any_inside, any_within, uses_at};
+use site_uses::{UseTest, Used, any_inside, any_within};
 use std::alloc::{AllocError, Global};
 use wr_base::{Code, Refusal};
 
@@ -52,12 +52,11 @@ fn first_in_uses<R: UsedRule>(
 pub(crate) fn first_use<R: UsedRule>(
     alloc: Global,
     rule: &R,
-    site: &Site,
+    gathered: &SiteUses,
 ) -> Result<Option<Refusal>, AllocError>
-    ensures { IfOk result (IsFirst (Among (uses_at (site_view site.now)) (R.broken rule.now))) }
+    ensures { IfOk result (IsFirst (Among (uses_at gathered.now) (R.broken rule.now))) }
 {
-    let uses = uses_at(alloc, site)?;
-    first_in_uses(alloc, rule, uses.as_slice())
+    first_in_uses(alloc, rule, gathered.uses())
 }
 
 /// Refuses each use that meets the test.

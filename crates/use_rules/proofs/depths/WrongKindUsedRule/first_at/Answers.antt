@@ -6,7 +6,7 @@ use Rattle.wr_rules.specs.UseRules.{is_by_name, wrong_kind}
 use Rattle.placed_sites.specs.Views.{spot_view}
 use Rattle.site_uses.specs.Views.{role_view, shape_view}
 use Rattle.use_rules.proofs.Anys.{refused_any}
-use Rattle.use_rules.proofs.rules.WrongKindUsedRule.first_at.Goals as goal
+use Rattle.use_rules.proofs.depths.WrongKindUsedRule.first_at.Goals as goal
 
 pub returns : goal.returns
 returns c =

@@ -1,17 +1,13 @@
-//! The nine rules.
+//! The rules on uses at any depth, and within instances.
 
-ghost use Rattle.std.specs.Prelude.{◌≡◌, IfOk};
-ghost use Rattle.ranked.specs.First.{IsFirst};
-
-use crate::exclusive::{gives_back, is_class_here, lacks_default, owner_of};
-use crate::kinds::{names_delegate, names_interface};
+use crate::exclusive::{is_class_here, lacks_default, owner_of};
+use crate::gathered::{SiteUses, UsesRule};
 use crate::passes::{EachInside, EachUse, EachWithin, UsedRule, UsedTest, first_use};
 use crate::questions::{
-    is_by_name, is_event, is_field, is_listed, is_passed, no_field_type, refers_to_object,
-    unresolved, wrong_kind,
+    is_by_name, is_listed, is_passed, refers_to_object, unresolved, wrong_kind,
 };
 use crate::types_used::used;
-use placed_sites::{Site, SiteRule, refuse_if};
+use placed_sites::refuse_if;
 use ranked::earlier;
 use site_uses::{Shape, UseTest, Used, any_within};
 use std::alloc::{AllocError, Global};
@@ -23,17 +19,17 @@ pub struct Unresolved<'t> {
     pub types: &'t Types,
 }
 
-impl<'t> SiteRule for Unresolved<'t> {
+impl<'t> UsesRule for Unresolved<'t> {
     ghost use Rattle.wr_rules.specs.UseRules.{IsUnresolved};
 
     ghost broken = { λ rule. IsUnresolved rule.types.now };
 
-    fn first_at(&self, alloc: Global, site: &Site) -> Result<Option<Refusal>, AllocError> {
+    fn first_of(&self, alloc: Global, gathered: &SiteUses) -> Result<Option<Refusal>, AllocError> {
         let rule = EachWithin {
             test: *self,
             code: Code::Unresolved,
         };
-        first_use(alloc, &rule, site)
+        first_use(alloc, &rule, gathered)
     }
 }
 
@@ -53,17 +49,17 @@ pub struct ReferenceArgument<'t> {
     pub types: &'t Types,
 }
 
-impl<'t> SiteRule for ReferenceArgument<'t> {
+impl<'t> UsesRule for ReferenceArgument<'t> {
     ghost use Rattle.wr_rules.specs.UseRules.{IsReferenceArgument};
 
     ghost broken = { λ rule. IsReferenceArgument rule.types.now };
 
-    fn first_at(&self, alloc: Global, site: &Site) -> Result<Option<Refusal>, AllocError> {
+    fn first_of(&self, alloc: Global, gathered: &SiteUses) -> Result<Option<Refusal>, AllocError> {
         let rule = EachWithin {
             test: *self,
             code: Code::ReferenceArgument,
         };
-        first_use(alloc, &rule, site)
+        first_use(alloc, &rule, gathered)
     }
 }
 
@@ -76,134 +72,6 @@ impl<'t> UseTest for ReferenceArgument<'t> {
         refers_to_object(self.types, shape)
     }
 }
-
-/// Refuses fields of another type than a fundamental one, an enum or a struct.
-#[derive(Clone, Copy, Debug)]
-pub struct FieldType<'t> {
-    pub types: &'t Types,
-}
-
-impl<'t> SiteRule for FieldType<'t> {
-    ghost use Rattle.wr_rules.specs.UseRules.{IsFieldType};
-
-    ghost broken = { λ rule. IsFieldType rule.types.now };
-
-    fn first_at(&self, alloc: Global, site: &Site) -> Result<Option<Refusal>, AllocError> {
-        let rule = EachUse {
-            test: *self,
-            code: Code::FieldType,
-        };
-        first_use(alloc, &rule, site)
-    }
-}
-
-impl<'t> UsedTest for FieldType<'t> {
-    ghost use Rattle.std.specs.Prelude.{◌&&◌, not};
-    ghost use Rattle.wr_rules.specs.UseRules.{is_field, no_field_type};
-
-    ghost meets = { λ rule u. is_field u.role && no_field_type rule.types.now u.use_ };
-
-    fn meets(&self, used: &Used) -> bool {
-        is_field(used.role) && no_field_type(self.types, &used.shape)
-    }
-}
-
-/// Refuses events of another type than a delegate.
-#[derive(Clone, Copy, Debug)]
-pub struct EventType<'t> {
-    pub types: &'t Types,
-}
-
-impl<'t> SiteRule for EventType<'t> {
-    ghost use Rattle.wr_rules.specs.UseRules.{IsEventType};
-
-    ghost broken = { λ rule. IsEventType rule.types.now };
-
-    fn first_at(&self, alloc: Global, site: &Site) -> Result<Option<Refusal>, AllocError> {
-        let rule = EachUse {
-            test: *self,
-            code: Code::EventType,
-        };
-        first_use(alloc, &rule, site)
-    }
-}
-
-impl<'t> UsedTest for EventType<'t> {
-    ghost use Rattle.std.specs.Prelude.{◌&&◌, not};
-    ghost use Rattle.wr_rules.specs.Kinds.{kind_used};
-    ghost use Rattle.wr_rules.specs.UseRules.{is_event, has_kind, is_delegate};
-
-    ghost meets = { λ rule u. is_event u.role && not (has_kind is_delegate (kind_used rule.types.now u.use_)) };
-
-    fn meets(&self, used: &Used) -> bool {
-        is_event(used.role) && !names_delegate(self.types, &used.shape)
-    }
-}
-
-/// Refuses events of a delegate that gives something back.
-#[derive(Clone, Copy, Debug)]
-pub struct EventDelegate<'t> {
-    pub types: &'t Types,
-}
-
-impl<'t> SiteRule for EventDelegate<'t> {
-    ghost use Rattle.wr_rules.specs.UseRules.{IsEventDelegate};
-
-    ghost broken = { λ rule. IsEventDelegate rule.types.now };
-
-    fn first_at(&self, alloc: Global, site: &Site) -> Result<Option<Refusal>, AllocError> {
-        let rule = EachUse {
-            test: *self,
-            code: Code::EventDelegate,
-        };
-        first_use(alloc, &rule, site)
-    }
-}
-
-impl<'t> UsedTest for EventDelegate<'t> {
-    ghost use Rattle.std.specs.Prelude.{◌&&◌, not};
-    ghost use Rattle.wr_rules.specs.Kinds.{used};
-    ghost use Rattle.wr_rules.specs.UseRules.{is_event, gives_back};
-
-    ghost meets = { λ rule u. is_event u.role && gives_back rule.types.now (used rule.types.now u.use_) };
-
-    fn meets(&self, used: &Used) -> bool {
-        is_event(used.role) && gives_back(&crate::types_used::used(self.types, &used.shape))
-    }
-}
-
-/// Refuses what is listed and is no interface.
-#[derive(Clone, Copy, Debug)]
-pub struct InterfaceWanted<'t> {
-    pub types: &'t Types,
-}
-
-impl<'t> SiteRule for InterfaceWanted<'t> {
-    ghost use Rattle.wr_rules.specs.UseRules.{IsInterfaceWanted};
-
-    ghost broken = { λ rule. IsInterfaceWanted rule.types.now };
-
-    fn first_at(&self, alloc: Global, site: &Site) -> Result<Option<Refusal>, AllocError> {
-        let rule = EachUse {
-            test: *self,
-            code: Code::InterfaceWanted,
-        };
-        first_use(alloc, &rule, site)
-    }
-}
-
-impl<'t> UsedTest for InterfaceWanted<'t> {
-    ghost use Rattle.std.specs.Prelude.{◌&&◌, not};
-    ghost use Rattle.wr_rules.specs.Kinds.{kind_used};
-    ghost use Rattle.wr_rules.specs.UseRules.{is_listed, has_kind, is_interface};
-
-    ghost meets = { λ rule u. is_listed u.role && not (has_kind is_interface (kind_used rule.types.now u.use_)) };
-
-    fn meets(&self, used: &Used) -> bool {
-        is_listed(used.role) && !names_interface(self.types, &used.shape)
-    }
-}
-
 // A name that has another kind than its use says, besides the names of factories and statics.
 #[derive(Drop)]
 struct OtherKind<'t> {
@@ -252,13 +120,13 @@ impl<'t> UsedRule for WrongKind<'t> {
     }
 }
 
-impl<'t> SiteRule for WrongKind<'t> {
+impl<'t> UsesRule for WrongKind<'t> {
     ghost use Rattle.wr_rules.specs.UseRules.{IsWrongKind};
 
     ghost broken = { λ rule. IsWrongKind rule.types.now };
 
-    fn first_at(&self, alloc: Global, site: &Site) -> Result<Option<Refusal>, AllocError> {
-        first_use(alloc, self, site)
+    fn first_of(&self, alloc: Global, gathered: &SiteUses) -> Result<Option<Refusal>, AllocError> {
+        first_use(alloc, self, gathered)
     }
 }
 
@@ -289,12 +157,12 @@ impl<'t> UsedTest for UseKind<'t> {
     }
 }
 
-impl<'t> SiteRule for UseKind<'t> {
+impl<'t> UsesRule for UseKind<'t> {
     ghost use Rattle.wr_rules.specs.UseRules.{IsUseKind};
 
     ghost broken = { λ rule. IsUseKind rule.types.now };
 
-    fn first_at(&self, alloc: Global, site: &Site) -> Result<Option<Refusal>, AllocError> {
+    fn first_of(&self, alloc: Global, gathered: &SiteUses) -> Result<Option<Refusal>, AllocError> {
         let passed = EachUse {
             test: *self,
             code: Code::UseKind,
@@ -303,8 +171,8 @@ impl<'t> SiteRule for UseKind<'t> {
             test: *self,
             code: Code::UseKind,
         };
-        let first = first_use(alloc, &passed, site)?;
-        let second = first_use(alloc, &inside, site)?;
+        let first = first_use(alloc, &passed, gathered)?;
+        let second = first_use(alloc, &inside, gathered)?;
         Ok(earlier(first, second))
     }
 }
@@ -349,16 +217,16 @@ impl<'t> UseTest for ExclusiveUse<'t> {
     }
 }
 
-impl<'t> SiteRule for ExclusiveUse<'t> {
+impl<'t> UsesRule for ExclusiveUse<'t> {
     ghost use Rattle.wr_rules.specs.UseRules.{IsExclusiveUse};
 
     ghost broken = { λ rule. IsExclusiveUse rule.types.now };
 
-    fn first_at(&self, alloc: Global, site: &Site) -> Result<Option<Refusal>, AllocError> {
+    fn first_of(&self, alloc: Global, gathered: &SiteUses) -> Result<Option<Refusal>, AllocError> {
         let elsewhere = EachUse {
             test: UsedElsewhere {
                 types: self.types,
-                declaration: site.declaration,
+                declaration: gathered.declaration(),
             },
             code: Code::ExclusiveUse,
         };
@@ -366,8 +234,8 @@ impl<'t> SiteRule for ExclusiveUse<'t> {
             test: *self,
             code: Code::ExclusiveUse,
         };
-        let first = first_use(alloc, &elsewhere, site)?;
-        let second = first_use(alloc, &inside, site)?;
+        let first = first_use(alloc, &elsewhere, gathered)?;
+        let second = first_use(alloc, &inside, gathered)?;
         Ok(earlier(first, second))
     }
 }
