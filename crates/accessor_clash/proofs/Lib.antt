@@ -1,2 +1,3 @@
 pub mod AbiTallies
+mod Bytewise
 mod Pieces

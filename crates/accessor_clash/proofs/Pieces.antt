@@ -1,10 +1,11 @@
 -- ABI names one by one.
-use Rattle.std.proofs.Common.{◌≡◌, ◌<◌, ℕ, ◌+◌, Bool, true, false, ◌&&◌, ◌||◌, cond, List, [], ◌∷◌, ◌++◌, codes, length, count_by, refl, sym, ap, ◌∙◌, arith, length-append}
+use Rattle.std.proofs.Common.{◌≡◌, ◌<◌, ℕ, ◌+◌, Bool, true, false, ◌&&◌, ◌||◌, cond, List, [], ◌∷◌, ◌++◌, codes, Some, length, count_by, refl, sym, ap, ◌∙◌, arith, length-append}
 use Rattle.std.specs.List.{list_any}
 use Rattle.std.specs.Option.{option_map}
 use Rattle.std.specs.Str.{bytes_eq}
 use Rattle.std.specs.Cmp.Lexicographic.{bytes_decides}
 use Rattle.std.proofs.lemmas.List.Sums.{sum_by-cons}
+use Rattle.std.proofs.lemmas.Option.{none-some, same_Some}
 use Rattle.wr_base.specs.declared.declaration.Member.{Member}
 use Rattle.wr_base.specs.declared.declaration.Member.TheVariants.{Method, Property, Event}
 use Rattle.wr_rules.specs.Members.{member_name, abi_names}
@@ -112,3 +113,15 @@ each_shared test (Method name abi sig) = refl
 each_shared test (Property name ty true) = or_both (test (lower (codes "get_" ++ name))) (test (lower (codes "put_" ++ name)))
 each_shared test (Property name ty false) = refl
 each_shared test (Event name ty) = or_both (test (lower (codes "add_" ++ name))) (test (lower (codes "remove_" ++ name)))
+
+-- a test that the first one fails is that of the second
+second_alone : (a b d : Bool) → a ≡ false → b ≡ d → b ≡ (a || (d || false))
+second_alone true b d e f = cc
+second_alone false b true e f = f
+second_alone false b false e f = f
+
+pub by_second : (test : List ℕ → Bool) (m : Member) (text : List ℕ) → second_abi m ≡ Some text → test (first_abi m) ≡ false → test text ≡ list_any test (abi_names m)
+by_second test (Method name abi sig) text e f = absurd (none-some text e)
+by_second test (Property name ty true) text e f = second_alone (test (codes "get_" ++ name)) (test text) (test (codes "put_" ++ name)) f (ap test (sym (same_Some (codes "put_" ++ name) text e)))
+by_second test (Property name ty false) text e f = absurd (none-some text e)
+by_second test (Event name ty) text e f = second_alone (test (codes "add_" ++ name)) (test text) (test (codes "remove_" ++ name)) f (ap test (sym (same_Some (codes "remove_" ++ name) text e)))

@@ -12,7 +12,9 @@ ghost use Rattle.member_counts.specs.Tallies.{count_at};
 ghost use Rattle.accessor_clash.specs.AbiCounts.{abi_count, first_abi, second_abi, is_shared, some_passes, clash_by};
 
 use crate::names::{first_abi, second_abi};
+use crate::pairs::Clashes;
 use crate::tallies::{AbiTallies, is_shared, is_taken, tallies_of};
+use member_counts::{FEW, first_paired};
 use placed_sites::{Site, SiteRule, refuse_if};
 use site_parts::{ItemRule, Standing, Titled, first_among, members_at};
 use std::alloc::{AllocError, Global};
@@ -94,11 +96,21 @@ impl<'a> ItemRule<Standing<'a, Member>> for AbiTallies {
     }
 }
 
-fn first_clash(alloc: Global, members: &[Standing<Member>]) -> Result<Option<Refusal>, AllocError>
+fn first_counted(alloc: Global, members: &[Standing<Member>]) -> Result<Option<Refusal>, AllocError>
     ensures { IfOk result (IsFirst (EachPaired clash_code (λ a b. shares_abi a b || takes_abi a b) members.now)) }
 {
     let tallies = tallies_of(alloc, members)?;
     first_among(alloc, &tallies, members)
+}
+
+fn first_clash(alloc: Global, members: &[Standing<Member>]) -> Result<Option<Refusal>, AllocError>
+    ensures { IfOk result (IsFirst (EachPaired clash_code (λ a b. shares_abi a b || takes_abi a b) members.now)) }
+{
+    if members.len() <= FEW {
+        first_paired(alloc, &Clashes, Code::AccessorClash, members)
+    } else {
+        first_counted(alloc, members)
+    }
 }
 
 /// Refuses each member that has an ABI name that another member has too, or that is the name of a member of another

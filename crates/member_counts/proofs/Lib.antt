@@ -1,3 +1,4 @@
 pub mod Counting
 pub mod Paired
+mod Pairwise
 pub mod Turned

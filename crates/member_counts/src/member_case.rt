@@ -10,6 +10,7 @@ ghost use Rattle.wr_rules.specs.MemberRules.{EachPaired, differs_in_case};
 ghost use Rattle.member_counts.specs.Tallies.{count_at};
 
 use crate::names::{Exact, Lower};
+use crate::pairs::{FEW, Relation, first_paired, same_but_for_case};
 use crate::tally::{count_in, tally_of};
 use placed_sites::{Site, SiteRule, refuse_if};
 use site_parts::{ItemRule, Standing, Titled, first_among, members_at};
@@ -63,14 +64,39 @@ fn spellings_of(alloc: Global, members: &[Standing<Member>]) -> Result<Spellings
     Ok(Spellings { exact, folded })
 }
 
+fn first_counted(alloc: Global, members: &[Standing<Member>]) -> Result<Option<Refusal>, AllocError>
+    ensures { IfOk result (IsFirst (EachPaired case_code differs_in_case members.now)) }
+{
+    let tallies = spellings_of(alloc, members)?;
+    first_among(alloc, &tallies, members)
+}
+
+// Names that differ in ASCII case alone.
+struct DiffersInCase;
+
+impl Relation for DiffersInCase {
+    ghost use Rattle.wr_rules.specs.MemberRules.{differs_in_case};
+
+    ghost holds = { λ _. differs_in_case };
+
+    fn relates(&self, one: &Member, other: &Member) -> bool {
+        let one = one.title().as_str();
+        let other = other.title().as_str();
+        same_but_for_case(one, other) && one != other
+    }
+}
+
 fn first_differing(
     alloc: Global,
     members: &[Standing<Member>],
 ) -> Result<Option<Refusal>, AllocError>
     ensures { IfOk result (IsFirst (EachPaired case_code differs_in_case members.now)) }
 {
-    let tallies = spellings_of(alloc, members)?;
-    first_among(alloc, &tallies, members)
+    if members.len() <= FEW {
+        first_paired(alloc, &DiffersInCase, Code::MemberCase, members)
+    } else {
+        first_counted(alloc, members)
+    }
 }
 
 /// Refuses each member of whose name another member's differs in ASCII case alone.

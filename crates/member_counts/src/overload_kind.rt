@@ -9,9 +9,10 @@ ghost use Rattle.wr_rules.specs.MemberRules.{EachPaired, is_method, mixes};
 ghost use Rattle.member_counts.specs.Tallies.{count_at, Mixed};
 
 use crate::names::{Exact, Others};
+use crate::pairs::{FEW, Relation, first_paired};
 use crate::tally::{count_in, tally_of};
 use placed_sites::{Site, SiteRule, refuse_if};
-use site_parts::{ItemRule, Standing, first_among, members_at};
+use site_parts::{ItemRule, Standing, Titled, first_among, members_at};
 use std::alloc::{AllocError, Global};
 use std::collections::BTreeMap;
 use wr_base::{Code, Member, Refusal};
@@ -67,11 +68,44 @@ fn kinds_of(alloc: Global, members: &[Standing<Member>]) -> Result<Kinds, AllocE
     Ok(Kinds { all_, others })
 }
 
-fn first_mixed(alloc: Global, members: &[Standing<Member>]) -> Result<Option<Refusal>, AllocError>
+fn first_counted(alloc: Global, members: &[Standing<Member>]) -> Result<Option<Refusal>, AllocError>
     ensures { IfOk result (IsFirst (EachPaired kind_code mixes members.now)) }
 {
     let tallies = kinds_of(alloc, members)?;
     first_among(alloc, &tallies, members)
+}
+
+fn is_method(member: &Member) -> bool
+    ensures { result ≡ is_method member.now }
+{
+    match member {
+        Member::Method { .. } => true,
+        Member::Property { .. } => false,
+        Member::Event { .. } => false,
+    }
+}
+
+// Members of one name that aren't both methods.
+struct Mixes;
+
+impl Relation for Mixes {
+    ghost use Rattle.wr_rules.specs.MemberRules.{mixes};
+
+    ghost holds = { λ _. mixes };
+
+    fn relates(&self, one: &Member, other: &Member) -> bool {
+        !(is_method(one) && is_method(other)) && one.title().as_str() == other.title().as_str()
+    }
+}
+
+fn first_mixed(alloc: Global, members: &[Standing<Member>]) -> Result<Option<Refusal>, AllocError>
+    ensures { IfOk result (IsFirst (EachPaired kind_code mixes members.now)) }
+{
+    if members.len() <= FEW {
+        first_paired(alloc, &Mixes, Code::OverloadKind, members)
+    } else {
+        first_counted(alloc, members)
+    }
 }
 
 /// Refuses each member whose exact name another member has, unless both are methods.

@@ -1,6 +1,6 @@
 use Rattle.member_counts.specs.Tallies.{count_at}
 use Rattle.member_counts.proofs.Paired.{first_kind}
-use Rattle.member_counts.proofs.overload_kind.first_mixed.Goals as goal
+use Rattle.member_counts.proofs.overload_kind.first_counted.Goals as goal
 
 pub returns : goal.returns
 returns c =

@@ -1,7 +1,7 @@
 use Rattle.member_counts.specs.Tallies.{count_at}
 use Rattle.accessor_clash.specs.AbiCounts.{abi_count}
 use Rattle.accessor_clash.proofs.AbiTallies.{first_clash}
-use Rattle.accessor_clash.proofs.clash.first_clash.Goals as goal
+use Rattle.accessor_clash.proofs.clash.first_counted.Goals as goal
 
 pub returns : goal.returns
 returns c =

@@ -1,6 +1,6 @@
 use Rattle.member_counts.specs.Tallies.{count_at}
 use Rattle.member_counts.proofs.Paired.{first_case}
-use Rattle.member_counts.proofs.member_case.first_differing.Goals as goal
+use Rattle.member_counts.proofs.member_case.first_counted.Goals as goal
 
 pub returns : goal.returns
 returns c =
