@@ -8,9 +8,10 @@ ghost use Rattle.winmd_cells.specs.Given.{Finds, Gives};
 ghost use Rattle.winmd_cells.specs.Seen.{followed_cell, heaps_in, number_seen, offsets_in, row_seen, tables_in, value_seen};
 
 use crate::image::Image;
-use md_heaps::{blob_at, text_at};
+use md_heaps::blob_at;
 use md_schema::{Column, ImageFault, ImageKind, Table, columns, decode};
 use ranked::Stop;
+use strings_heap::StringsHeap;
 
 /// What a cell states; row 0 stands for nothing.
 #[derive(Clone, Copy)]
@@ -43,11 +44,11 @@ pub(crate) fn column_of(table: Table, column: usize) -> Option<Column>
     columns(table).get(column).copied()
 }
 
-fn text_in(heap: &[u8], at: u32) -> Result<Value<'_>, ImageKind>
+fn text_in<'a>(heap: &StringsHeap<'a>, at: u32) -> Result<Value<'a>, ImageKind>
     ensures { Finds value_seen result (values_as.follow (record { texts = heap.now; blobs = heap.now }) Column.Texts at) }
 {
-    match text_at(heap, at) {
-        Ok(text) => Ok(Value::Text(text)),
+    match heap.at(at) {
+        Ok(text) => Ok(Value::Text(text.as_bytes())),
         Err(fault) => Err(fault.kind),
     }
 }

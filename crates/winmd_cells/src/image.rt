@@ -8,6 +8,7 @@ ghost use Rattle.md_tables.specs.Rows.{rows_of};
 
 use md_schema::Sizes;
 use md_tables::TableView;
+use strings_heap::StringsHeap;
 
 /// What is worked out once of a tables' stream: by it any cell's place is found, and any list of rows is a part of one list.
 #[derive(Drop)]
@@ -30,7 +31,7 @@ pub struct Image<'a> {
     /// Where the tables' stream begins in the image.
     pub at: u64,
     /// `#Strings`.
-    pub texts: &'a [u8],
+    pub texts: &'a StringsHeap<'a>,
     /// `#Blob`.
     pub blobs: &'a [u8],
     pub places: &'a Places,

@@ -14,6 +14,7 @@ use md_schema::TABLES;
 use md_tables::TableView;
 use ranked::Memory;
 use std::alloc::Global;
+use strings_heap::StringsHeap;
 
 /// What is worked out once of a tables' stream. Read the stream's tables first: a stream that has a fault may state so many rows that
 /// their numbers take 16 GiB.
@@ -36,7 +37,7 @@ impl<'a> Image<'a> {
         view: &'a TableView,
         stream: &'a [u8],
         at: u64,
-        texts: &'a [u8],
+        texts: &'a StringsHeap<'a>,
         blobs: &'a [u8],
         places: &'a Places,
     ) -> Image<'a>

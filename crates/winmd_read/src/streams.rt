@@ -18,6 +18,7 @@ use md_schema::ImageFault;
 use md_tables::{TableView, read_tables};
 use ranked::Stop;
 use std::alloc::Global;
+use strings_heap::StringsHeap;
 use winmd_cells::{Image, places_of};
 use wr_base::Types;
 
@@ -61,7 +62,8 @@ fn view_types(
     ensures { Gives (map decl_tree) result (types_as.types_of (tables_of at stream.now (record { texts = texts.now; blobs = blobs.now }))) }
 {
     let places = places_of(alloc, stream)?;
-    image_types(alloc, Image::new(view, stream, at, texts, blobs, &places))
+    let heap = StringsHeap::new(alloc, texts)?;
+    image_types(alloc, Image::new(view, stream, at, &heap, blobs, &places))
 }
 
 /// The set of types that a tables' stream at an offset states, over two heaps.

@@ -9,6 +9,7 @@ use crate::cells::push_value;
 use md_schema::{TABLES, Table, columns};
 use md_tables::{TableView, read_tables};
 use std::alloc::AllocError;
+use strings_heap::StringsHeap;
 use winmd_cells::{Image, places_of};
 use winmd_image::{Streams, unwrap};
 
@@ -109,7 +110,8 @@ fn push_view(
         return Ok(());
     }
     let places = places_of(*out.allocator(), stream)?;
-    let image = Image::new(view, stream, at, texts, blobs, &places);
+    let heap = StringsHeap::new(*out.allocator(), texts)?;
+    let image = Image::new(view, stream, at, &heap, blobs, &places);
     push_tables(out, &image, which)
 }
 
