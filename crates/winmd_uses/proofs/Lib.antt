@@ -1,4 +1,5 @@
 pub mod TakeLaws
+pub mod OrderLaws
 pub mod UseLaws
 pub mod KeyLaws
 pub mod DefaultLaws

@@ -1,6 +1,6 @@
 -- What is taken one after the other.
 use Rattle.std.proofs.Common.{◌≡◌, ℕ, ◌+◌, ◌<◌, ◌≤◌, Bool, true, false, cond, List, [], ◌∷◌, ◌++◌, map, take, get_or, length, Result, Ok, Err, OnOk, Some, slice_get, refl, sym, ap, subst, ◌∙◌, append-nil, inl, inr}
-use Rattle.std.specs.Prelude.{◌||◌, ◌⊎◌, String, string_bytes}
+use Rattle.std.specs.Prelude.{◌||◌, ◌&&◌, not, ◌⊎◌, String, string_bytes}
 use Rattle.std.specs.BTreeSet.{BTreeSet, Updates, contains_text}
 use Rattle.std.specs.Cmp.{both_ways}
 use Rattle.std.specs.Cmp.Lexicographic.{bytes_decides}
@@ -14,16 +14,18 @@ use Rattle.std.proofs.lemmas.List.{take_more, take_all}
 use Rattle.std.proofs.lemmas.List.Concat.{flat_map-append}
 use Rattle.std.proofs.lemmas.List.Folds.{list_any-append}
 use Rattle.std.proofs.lemmas.Option.{slice_get_within, same_Some, slice_get-get_or}
+use Rattle.wr_base.specs.declared.declaration.Declaration.{Declaration}
+use Rattle.wr_base.specs.Declarations.{name_of}
 use Rattle.wr_base.specs.Trees.{UseTree, DeclTree}
 use Rattle.winmd_sets.specs.Declared.{lines_of}
 use Rattle.winmd_lines.specs.Lines.{Line, MadeBy}
 use Rattle.winmd_lines.specs.Makers.{Maker, maker_number, maker_signature, maker_type}
 use Rattle.winmd_lines.specs.UsedNames.{names_in_signature}
-use Rattle.winmd_lines.specs.Names.{is_maker, makers_in_cell, specs_in_cell}
+use Rattle.winmd_lines.specs.Names.{is_declared, is_maker, makers_in_cell, specs_in_cell}
 use Rattle.winmd_uses.specs.Instances.{Adds, Agrees, add_once, all_of}
 use Rattle.winmd_uses.specs.Kinds.{nothing}
 use Rattle.winmd_uses.specs.Known.{Hashed}
-use Rattle.winmd_uses.specs.Takes.{Says, Takes, add_each, both, cell_says, has_maker, has_name, instances_of, lines_say, maker_alone, named_by, names_alone, spec_alone}
+use Rattle.winmd_uses.specs.Takes.{Says, Takes, add_each, both, cell_says, has_maker, has_name, instances_of, is_foreign, lines_say, maker_alone, named_by, names_alone, spec_alone}
 use Rattle.winmd_uses.specs.declared.names.Names.{Names}
 use Rattle.winmd_uses.specs.declared.used.Used.{Used}
 
@@ -93,12 +95,27 @@ same_none a = same_lists (both a nothing) a (append-nil a.names) (append-nil a.m
 
 -- ---- nothing more, and one after the other
 
+or_and_false : (a b : Bool) → (a || (b && false)) ≡ a
+or_and_false true b = refl
+or_and_false false true = refl
+or_and_false false false = refl
+
+or_and : (g p a b : Bool) → ((g || (p && a)) || (p && b)) ≡ (g || (p && (a || b)))
+or_and true p a b = refl
+or_and false true a b = refl
+or_and false false a b = refl
+
+-- a set of the same declarations leaves out the same names
+foreign_same : (g h : Used) (name : List ℕ) → h.types.now ≡ g.types.now → is_foreign h name ≡ is_foreign g name
+foreign_same g h name e = ap (λ (ds : List Declaration). not (is_declared (map name_of ds) name)) e
+
 pub takes_none : (u : Used) → Takes nothing u u
-takes_none u = record { names = λ n. sym (or_false (has_name u n)); makers = λ m. sym (or_false (has_maker u m)); agrees = λ a. a; specs = λ a. refl }
+takes_none u = record { types = refl; names = λ n. sym (or_and_false (has_name u n) (is_foreign u n)); makers = λ m. sym (or_false (has_maker u m)); agrees = λ a. a; specs = λ a. refl }
 
 pub takes_as : (a b : Says) (g h : Used) → Same a b → Takes a g h → Takes b g h
 takes_as a b g h s x = record {
-  names = λ n. x.names n ∙ ap (λ (t : Bool). has_name g n || t) (s.names n);
+  types = x.types;
+  names = λ n. x.names n ∙ ap (λ (t : Bool). has_name g n || (is_foreign g n && t)) (s.names n);
   makers = λ m. x.makers m ∙ ap (λ (t : Bool). has_maker g m || t) (s.makers m);
   agrees = x.agrees;
   specs = λ e. x.specs e ∙ ap (add_each (instances_of g)) s.specs;
@@ -106,8 +123,11 @@ takes_as a b g h s x = record {
 
 pub takes_then : (a b : Says) (g h k : Used) → Takes a g h → Takes b h k → Takes (both a b) g k
 takes_then a b g h k x y = record {
-  names = λ n. y.names n ∙ ap (λ (t : Bool). t || list_any (bytes_eq n) b.names) (x.names n) ∙ or_assoc (has_name g n) (list_any (bytes_eq n) a.names) (list_any (bytes_eq n) b.names)
-      ∙ ap (λ (t : Bool). has_name g n || t) (sym (list_any-append (bytes_eq n) a.names b.names));
+  types = y.types ∙ x.types;
+  names = λ n. y.names n ∙ ap (λ (t : Bool). has_name h n || (t && list_any (bytes_eq n) b.names)) (foreign_same g h n x.types)
+      ∙ ap (λ (t : Bool). t || (is_foreign g n && list_any (bytes_eq n) b.names)) (x.names n)
+      ∙ or_and (has_name g n) (is_foreign g n) (list_any (bytes_eq n) a.names) (list_any (bytes_eq n) b.names)
+      ∙ ap (λ (t : Bool). has_name g n || (is_foreign g n && t)) (sym (list_any-append (bytes_eq n) a.names b.names));
   makers = λ m. y.makers m ∙ ap (λ (t : Bool). t || list_any (is_maker m) b.makers) (x.makers m) ∙ or_assoc (has_maker g m) (list_any (is_maker m) a.makers) (list_any (is_maker m) b.makers)
       ∙ ap (λ (t : Bool). has_maker g m || t) (sym (list_any-append (is_maker m) a.makers b.makers));
   agrees = λ e. y.agrees (x.agrees e);
@@ -192,7 +212,7 @@ each_names f h xs = same_lists (each (λ x. names_alone (f (h x))) xs) (names_al
 
 -- ---- texts in a set
 
-bytes_turned : (a b : List ℕ) → bytes_eq a b ≡ bytes_eq b a
+pub bytes_turned : (a b : List ℕ) → bytes_eq a b ≡ bytes_eq b a
 bytes_turned a b =
     both_ways (bytes_eq a b) (bytes_eq b a) (λ e. (bytes_decides b a).1 (sym ((bytes_decides a b).0 e))) (λ e. (bytes_decides a b).1 (sym ((bytes_decides b a).0 e)))
 
@@ -218,27 +238,54 @@ text_put s n text u other = btree_set_updates_text (string_bytes text) s n true 
 pub text_marked : (s n : Hashed (String Global)) (text : String Global) → hash.Updates string_eq s n text true → (other : List ℕ) → hash.contains_text n other ≡ (bytes_eq other (string_bytes text) || hash.contains_text s other)
 text_marked s n text u other = hash_set_updates_text (string_bytes text) s n true u other ∙ put_is (string_bytes text) other (hash.contains_text s other)
 
--- a name is taken
-pub takes_name : (name : List ℕ) (g h : Used) → ((other : List ℕ) → has_name h other ≡ (bytes_eq other name || has_name g other)) → h.makers ≡ g.makers → h.instances ≡ g.instances → Takes (names_alone (name ∷ [])) g h
-takes_name name g h n m i = record {
-  names = λ other. n other ∙ or_turned (bytes_eq other name) (has_name g other) ∙ ap (λ (b : Bool). has_name g other || b) (sym (or_false (bytes_eq other name)));
+or_true : (a : Bool) → (a || true) ≡ true
+or_true true = refl
+or_true false = refl
+
+-- a name that the set doesn't declare is taken
+pub takes_name : (name : List ℕ) (g h : Used) → is_foreign g name ≡ true → h.types ≡ g.types → ((other : List ℕ) → has_name h other ≡ (bytes_eq other name || has_name g other)) → h.makers ≡ g.makers → h.instances ≡ g.instances
+    → Takes (names_alone (name ∷ [])) g h
+takes_name name g h foreign t n m i = record {
+  types = λ j. (t j).now;
+  names = λ other. n other ∙ elim (either (bytes_eq other name)) [
+    | inl e ↦ (let f : is_foreign g other ≡ true = ap (is_foreign g) ((bytes_decides other name).0 e) ∙ foreign in rw (e, f) (sym (or_true (has_name g other))))
+    | inr e ↦ rw e (sym (or_and_false (has_name g other) (is_foreign g other)))
+  ];
   makers = λ maker. ap (λ (ms : List Bool). get_or ms (maker_number maker) false) m ∙ sym (or_false (has_maker g maker));
   agrees = λ a. subst Agrees (sym i) a;
   specs = λ a. ap all_of i;
 }
 
+-- a name that is there, or that the set declares, is taken by doing nothing
+pub takes_again : (name : List ℕ) (g : Used) → (has_name g name ≡ true) ⊎ (is_foreign g name ≡ false) → Takes (names_alone (name ∷ [])) g g
+takes_again name g h = record {
+  types = refl;
+  names = λ other. elim (either (bytes_eq other name)) [
+    | inl e ↦ same other ((bytes_decides other name).0 e) e h
+    | inr e ↦ rw e (sym (or_and_false (has_name g other) (is_foreign g other)))
+  ];
+  makers = λ maker. sym (or_false (has_maker g maker));
+  agrees = λ a. a;
+  specs = λ a. refl;
+}
+  where
+    same : (other : List ℕ) → other ≡ name → bytes_eq other name ≡ true → (has_name g name ≡ true) ⊎ (is_foreign g name ≡ false) → has_name g other ≡ (has_name g other || (is_foreign g other && (bytes_eq other name || false)))
+    same other is e (inl t) = (let known : has_name g other ≡ true = ap (has_name g) is ∙ t in rw known refl)
+    same other is e (inr t) = (let own : is_foreign g other ≡ false = ap (is_foreign g) is ∙ t in rw own (sym (or_false (has_name g other))))
+
 -- an instance is taken
-pub takes_instance : (u : UseTree) (g h : Used) → h.names ≡ g.names → h.makers ≡ g.makers → Adds u g.instances h.instances → Takes (spec_alone u) g h
-takes_instance u g h n m a = record {
-  names = λ other. ap (λ (s : Names). contains_text s.set other) n ∙ sym (or_false (has_name g other));
+pub takes_instance : (u : UseTree) (g h : Used) → h.types ≡ g.types → h.names ≡ g.names → h.makers ≡ g.makers → Adds u g.instances h.instances → Takes (spec_alone u) g h
+takes_instance u g h t n m a = record {
+  types = λ j. (t j).now;
+  names = λ other. ap (λ (s : Names). contains_text s.set other) n ∙ sym (or_and_false (has_name g other) (is_foreign g other));
   makers = λ maker. ap (λ (ms : List Bool). get_or ms (maker_number maker) false) m ∙ sym (or_false (has_maker g maker));
   agrees = a.agrees;
   specs = a.all;
 }
 
-pub takes_instance_if : {X : Type 0} (r : Result Unit X) (u : UseTree) (g h : Used) → h.names ≡ g.names → h.makers ≡ g.makers → OnOk r (Adds u g.instances h.instances) → OnOk r (Takes (spec_alone u) g h)
-takes_instance_if (Ok x) u g h n m a = takes_instance u g h n m a
-takes_instance_if (Err z) u g h n m a = tt
+pub takes_instance_if : {X : Type 0} (r : Result Unit X) (u : UseTree) (g h : Used) → h.types ≡ g.types → h.names ≡ g.names → h.makers ≡ g.makers → OnOk r (Adds u g.instances h.instances) → OnOk r (Takes (spec_alone u) g h)
+takes_instance_if (Ok x) u g h t n m a = takes_instance u g h t n m a
+takes_instance_if (Err z) u g h t n m a = tt
 
 -- a constructor: itself, and then the names in its row
 pub maker_whole : (maker : Maker) → Same (both (maker_alone maker) (names_alone (maker_type maker ∷ names_in_signature (maker_signature maker)))) (cell_says (MadeBy maker))
@@ -248,10 +295,10 @@ maker_whole maker =
     (ap (λ (ns : List (List ℕ)). maker_type maker ∷ ns) (sym (append-nil (names ++ []) ∙ append-nil names))) refl refl
 
 -- a name that is put in is taken
-pub takes_put : {X : Type 0} (r : Result Unit X) (name : List ℕ) (g h : Used) → h.makers ≡ g.makers → h.instances ≡ g.instances → OnOk r ((other : List ℕ) → has_name h other ≡ (bytes_eq other name || has_name g other))
+pub takes_put : {X : Type 0} (r : Result Unit X) (name : List ℕ) (g h : Used) → is_foreign g name ≡ true → h.types ≡ g.types → h.makers ≡ g.makers → h.instances ≡ g.instances → OnOk r ((other : List ℕ) → has_name h other ≡ (bytes_eq other name || has_name g other))
     → OnOk r (Takes (names_alone (name ∷ [])) g h)
-takes_put (Ok x) name g h m i n = takes_name name g h n m i
-takes_put (Err z) name g h m i n = tt
+takes_put (Ok x) name g h f t m i n = takes_name name g h f t n m i
+takes_put (Err z) name g h f t m i n = tt
 
 -- what a declaration of a kind says is what its lines say
 pub taken_kind : {X : Type 0} (r : Result Unit X) (a : Says) (d e : DeclTree) (g h : Used) → d ≡ e → Same a (lines_say (lines_of e)) → OnOk r (Takes a g h) → OnOk r (Takes (lines_say (lines_of d)) g h)

@@ -9,19 +9,20 @@ use Rattle.std.specs.declared.cmp.Ordering.{Ordering}
 use Rattle.std.specs.declared.cmp.Ordering.TheVariants.{Less, Equal, Greater}
 use Rattle.std.proofs.lemmas.List.Concat.{flat_map-append}
 use Rattle.std.proofs.lemmas.List.Folds.{list_any-append}
-use Rattle.wr_base.specs.Trees.{UseTree, DeclTree, decl_tree, same_use, text_of_tree}
-use Rattle.wr_base.proofs.TreeLaws.{same_use-is, same_use-refl}
+use Rattle.wr_base.specs.Declarations as declared
+use Rattle.wr_base.specs.Trees.{UseTree, DeclTree, decl_tree, name_of, same_use, text_of_tree}
+use Rattle.wr_base.proofs.TreeLaws.{name_of-decl_tree, same_use-is, same_use-refl}
 use Rattle.winmd_lines.specs.Lines.{Drawn, Line}
 use Rattle.std.proofs.lemmas.Bool.{eqb-true}
 use Rattle.winmd_lines.specs.Makers.{Maker, maker_number, Flags, Activatable, Factory, Default, ExclusiveTo, Guid, Overload, Static, Version, all_makers}
-use Rattle.winmd_lines.specs.Names.{is_maker, used, names_in_cell, specs_in_cell, makers_in_cell}
+use Rattle.winmd_lines.specs.Names.{is_declared, is_maker, used, names_in_cell, specs_in_cell, makers_in_cell}
 use Rattle.winmd_uses.proofs.TakeLaws.{Same, each, either, lines_both, same_both, same_refl, same_trans}
 use Rattle.wr_base.specs.declared.declaration.Declaration.{Declaration}
 use Rattle.winmd_uses.specs.Kinds.{nothing}
 use Rattle.winmd_sets.specs.Declared.{lines_of}
 use Rattle.winmd_sets.specs.Rows.{once, by_text, insert_by_text, placed_by_text, maker_line, spec_line, made_lines, own_lines, used_makers, used_specs}
 use Rattle.winmd_uses.specs.Instances.{add_once}
-use Rattle.winmd_uses.specs.Takes.{IsEmpty, Takes, add_each, both, lines_say, named_by}
+use Rattle.winmd_uses.specs.Takes.{IsEmpty, Takes, add_each, both, is_foreign, lines_say, named_by}
 use Rattle.winmd_uses.specs.Uses.{IsUsed, lines_behind}
 use Rattle.winmd_uses.specs.declared.used.Used.{Used}
 
@@ -292,12 +293,18 @@ names_are ds name =
     ∙ ap (λ (b : Bool). list_any (bytes_eq name) (used names_in_cell own) || b) (sym (made_in name (used_specs own) (used_makers own)))
     ∙ sym (in_both name own (made_lines (used_specs own) (used_makers own)))
 
-pub whole_set : (ds : List DeclTree) (g h : Used) → IsEmpty g → Takes (lines_say (flat_map lines_of ds)) g h → IsUsed ds h
-whole_set ds g h e x = record {
-  names = λ name. x.names name ∙ ap (λ (b : Bool). b || list_any (bytes_eq name) (used named_by (flat_map lines_of ds))) (e.names name) ∙ names_are ds name;
+same_names : (ds : List Declaration) → map declared.name_of ds ≡ map name_of (map decl_tree ds)
+same_names [] = refl
+same_names (d ∷ ds) = ap (λ (n : List ℕ). n ∷ map declared.name_of ds) (sym (name_of-decl_tree d)) ∙ ap (λ (ns : List (List ℕ)). name_of (decl_tree d) ∷ ns) (same_names ds)
+
+pub whole_set : (types : List Declaration) (g h : Used) → g.types.now ≡ types → IsEmpty g → Takes (lines_say (flat_map lines_of (map decl_tree types))) g h → IsUsed (map decl_tree types) h
+whole_set types g h t e x = (let ds : List DeclTree = map decl_tree types in record {
+  names = λ name. x.names name ∙ ap (λ (b : Bool). b || (is_foreign g name && list_any (bytes_eq name) (used named_by (flat_map lines_of ds)))) (e.names name)
+      ∙ ap (λ (b : Bool). is_foreign g name && b) (names_are ds name)
+      ∙ ap (λ (ns : List (List ℕ)). not (is_declared ns name) && list_any (bytes_eq name) (used names_in_cell (lines_behind ds))) (ap (map declared.name_of) t ∙ same_names types);
   makers = λ maker. x.makers maker ∙ ap (λ (b : Bool). b || list_any (is_maker maker) (used makers_in_cell (flat_map lines_of ds))) (e.makers maker);
   specs = x.specs e.agrees ∙ ap (λ (us : List UseTree). add_each us (used specs_in_cell (flat_map lines_of ds))) e.specs ∙ added_once (used specs_in_cell (flat_map lines_of ds));
-}
+})
 
 pub declarations_say : (ds : List Declaration) → Same (each (λ (d : Declaration). lines_say (lines_of (decl_tree d))) ds) (lines_say (flat_map lines_of (map decl_tree ds)))
 declarations_say [] = same_refl nothing

@@ -1,14 +1,15 @@
 //! Declarations of each kind.
 
-ghost use Rattle.std.specs.Prelude.{◌≡◌, ◌∷◌, [], OnOk, map, option_map};
-ghost use Rattle.std.specs.List.{flat_map};
+ghost use Rattle.std.specs.Prelude.{◌≡◌, ◌∷◌, [], OnOk, bytes_eq, map, option_map, true};
+ghost use Rattle.std.specs.List.{flat_map, list_any};
 ghost use Rattle.wr_base.specs.Trees.{field_tree, member_tree, signature_tree, tree_of};
 ghost use Rattle.winmd_lines.specs.UsedNames.{names_in_use};
 ghost use Rattle.winmd_sets.specs.Declared as declared;
 ghost use Rattle.winmd_uses.specs.Kinds.{base_says, class_says, delegate_says, enum_says, id_says, interface_says, made_if, makings_say, own_name, struct_says};
 ghost use Rattle.winmd_uses.specs.Makers.{maker_of};
-ghost use Rattle.winmd_uses.specs.Takes.{Takes, lines_say, names_alone};
+ghost use Rattle.winmd_uses.specs.Takes.{Takes, lines_say, names_alone, types_in};
 
+use crate::declared::is_outside;
 use crate::makers::Maker;
 use crate::used::Used;
 use ranked::Memory;
@@ -23,7 +24,7 @@ fn is_default(default: &Option<TypeUse>, ty: &TypeUse) -> bool
     }
 }
 
-impl Used {
+impl Used<'_> {
     pub(crate) fn take_maker_if(&mut self, test: bool, maker: Maker) -> Result<(), Memory>
         ensures { OnOk result (Takes (made_if test (maker_of maker)) self.old self.new) }
     {
@@ -47,13 +48,15 @@ impl Used {
         self.take_maker(Maker::Version)
     }
 
+    // The name of a declaration of the set, which is looked up nowhere.
     fn take_own_name(&mut self, name: &FullName, cases: &Cases) -> Result<(), Memory>
+        requires { list_any (bytes_eq name.now) (types_in self.old) ≡ true }
         ensures { OnOk result (Takes (own_name name.now cases.now) self.old self.new) }
     {
-        if cases.is_empty() {
+        if cases.is_empty() || !is_outside(name) {
             return Ok(());
         }
-        self.take_name(name.as_str())
+        self.take_foreign(name.as_str())
     }
 
     pub(crate) fn take_enum(
@@ -62,6 +65,7 @@ impl Used {
         flags: bool,
         cases: &Cases,
     ) -> Result<(), Memory>
+        requires { list_any (bytes_eq name.now) (types_in self.old) ≡ true }
         ensures { OnOk result (Takes (enum_says name.now flags cases.now) self.old self.new) }
     {
         self.take_name("System.Enum")?;

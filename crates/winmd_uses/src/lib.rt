@@ -3,6 +3,7 @@
 #![tactic(auto)]
 
 mod declarations;
+mod declared;
 mod instances;
 mod keys;
 mod kinds;
@@ -14,6 +15,7 @@ mod used;
 mod uses;
 
 pub use declarations::uses_of;
+pub use declared::{is_declared, is_outside};
 pub use keys::put_key;
 pub use makers::Maker;
 pub use used::Used;

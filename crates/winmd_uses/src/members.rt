@@ -42,7 +42,7 @@ fn has_overload(name: &Name, abi: &Name, repeated: bool) -> bool
     *abi != *name || repeated
 }
 
-impl Used {
+impl Used<'_> {
     fn take_method(
         &mut self,
         name: &Name,

@@ -1,6 +1,6 @@
 //! Names, each once.
 
-ghost use Rattle.std.specs.Prelude.{◌≡◌, ◌||◌, true, false, ℕ, List, OnOk, OnErr, bytes_eq, string_bytes};
+ghost use Rattle.std.specs.Prelude.{◌≡◌, ◌||◌, true, false, IsTrue, ℕ, List, OnOk, OnErr, bytes_eq, string_bytes};
 ghost use Rattle.std.specs.BTreeSet.{IsUnchanged, Updates, contains_text};
 ghost use Rattle.std.specs.HashSet as hash;
 ghost use Rattle.std.specs.String.{string_cmp, string_eq};
@@ -55,6 +55,13 @@ impl Names {
         self.set.contains(name)
     }
 
+    /// The same by its hash, which may miss a name.
+    pub(crate) fn knows(&self, name: &str) -> bool
+        ensures { IsTrue result → contains_text self.now.set name.now ≡ true }
+    {
+        self.known.contains(name)
+    }
+
     fn add(&mut self, name: String, again: String) -> Result<(), Memory>
         requires { string_bytes again ≡ string_bytes name }
         ensures { OnOk result ((other : List ℕ) → contains_text self.new.set other ≡ (bytes_eq other (string_bytes name) || contains_text self.old.set other)) }
@@ -67,7 +74,7 @@ impl Names {
     pub(crate) fn take(&mut self, alloc: Global, name: &str) -> Result<(), Memory>
         ensures { OnOk result ((other : List ℕ) → contains_text self.new.set other ≡ (bytes_eq other name.now || contains_text self.old.set other)) }
     {
-        if self.known.contains(name) {
+        if self.knows(name) {
             return Ok(());
         }
         self.add(

@@ -13,7 +13,7 @@ use ranked::Memory;
 use sig_blobs::template;
 use wr_base::{Base, FullName, Param, Signature, TypeUse};
 
-impl Used {
+impl Used<'_> {
     fn take_base(&mut self, base: Base) -> Result<(), Memory>
         ensures { OnOk result (Takes (names_alone (names_in_base base)) self.old self.new) }
     {
@@ -37,8 +37,8 @@ impl Used {
     {
         match ty {
             TypeUse::Plain(base) => self.take_base(*base),
-            TypeUse::Value(name) => self.take_name(name.as_str()),
-            TypeUse::Reference(name) => self.take_name(name.as_str()),
+            TypeUse::Value(name) => self.take_full(name),
+            TypeUse::Reference(name) => self.take_full(name),
             TypeUse::Inst(name, arguments) => {
                 let list = arguments.as_slice();
                 self.take_template(name, list.len())?;
@@ -57,8 +57,8 @@ impl Used {
     {
         match ty {
             TypeUse::Plain(_) => Ok(()),
-            TypeUse::Value(name) => self.take_name(name.as_str()),
-            TypeUse::Reference(name) => self.take_name(name.as_str()),
+            TypeUse::Value(name) => self.take_full(name),
+            TypeUse::Reference(name) => self.take_full(name),
             TypeUse::Inst(_, _) => {
                 self.take_instance(ty)?;
                 self.take_use(ty)

@@ -1,6 +1,0 @@
-use Rattle.std.proofs.Common.{refl}
-use Rattle.winmd_uses.proofs.TakeLaws.{takes_put}
-use Rattle.winmd_uses.proofs.used.Used.take_name.Goals as goal
-
-pub returns : goal.returns
-returns c = takes_put c.take.result c.args.name.now c.args.self.now _ refl refl c.take.ensures
