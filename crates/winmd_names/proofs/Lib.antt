@@ -1,7 +1,6 @@
 pub mod OrderLaws
 pub mod TextLaws
 pub mod RefLaws
-pub mod MergeLaws
 pub mod NumberLaws
 pub mod DeclaredLaws
 pub mod DownLaws

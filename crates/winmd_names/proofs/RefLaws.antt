@@ -12,18 +12,9 @@ use Rattle.std.specs.List.Sorted.{IsStrictlySortedBy}
 use Rattle.std.specs.String.{string_cmp}
 use Rattle.std.specs.declared.alloc.Global.{Global}
 use Rattle.winmd_lines.specs.Orders.{insert_once, placed_once, set_by}
+use Rattle.winmd_uses.specs.Orders.{Rises}
+use Rattle.winmd_uses.proofs.OrderLaws.{before_rest, not_among}
 use Rattle.winmd_uses.proofs.TakeLaws.{either}
-use Rattle.winmd_names.specs.Orders.{Rises}
-
--- ---- a name that comes before others isn't among them
-
-pub not_among : (x : List ℕ) (ys : List (List ℕ)) → AllByRecursion (λ y. slice_cmp nat_cmp x y ≡ Less) ys → list_any (bytes_eq x) ys ≡ false
-not_among x [] h = refl
-not_among x (y ∷ ys) h = (let no : bytes_eq x y ≡ false = sym (is_eq-slice_cmp x y) ∙ ap is_eq h.0 in rw (no, not_among x ys h.1) refl)
-
-pub before_rest : (x z : List ℕ) (zs : List (List ℕ)) → slice_cmp nat_cmp x z ≡ Less → AllByRecursion (λ y. slice_cmp nat_cmp z y ≡ Less) zs → AllByRecursion (λ y. slice_cmp nat_cmp x y ≡ Less) zs
-before_rest x z [] e h = tt
-before_rest x z (y ∷ ys) e h = (nat_list_cmp_total.trans x z y e h.0, before_rest x z ys e h.1)
 
 is_self : (x : List ℕ) → bytes_eq x x ≡ true
 is_self x = (bytes_decides x x).1 refl
@@ -118,22 +109,6 @@ set_rises (x ∷ xs) = insert_rises x (set_by (λ w. w) xs) (set_rises xs)
 
 -- ---- names that pass
 
-filter_all : (Q : List ℕ → Type 0) (p : List ℕ → Bool) (xs : List (List ℕ)) → AllByRecursion Q xs → AllByRecursion Q (filter p xs)
-filter_all Q p [] h = tt
-filter_all Q p (x ∷ xs) h =
-    elim (either (p x)) [
-      | inl e ↦ rw e (h.0, filter_all Q p xs h.1)
-      | inr e ↦ rw e (filter_all Q p xs h.1)
-    ]
-
-filter_rises : (p : List ℕ → Bool) (xs : List (List ℕ)) → Rises xs → Rises (filter p xs)
-filter_rises p [] h = tt
-filter_rises p (x ∷ xs) h =
-    elim (either (p x)) [
-      | inl e ↦ rw e (filter_all (λ y. slice_cmp nat_cmp x y ≡ Less) p xs h.0, filter_rises p xs h.1)
-      | inr e ↦ rw e (filter_rises p xs h.1)
-    ]
-
 filter_any : (n : List ℕ) (p : List ℕ → Bool) (xs : List (List ℕ)) → list_any (bytes_eq n) (filter p xs) ≡ (p n && list_any (bytes_eq n) xs)
 filter_any n p [] = (let both : (b : Bool) → false ≡ (b && false) = λ b. elim b as (λ b. false ≡ (b && false)) [ true ↦ refl | false ↦ refl ] in both (p n))
 filter_any n p (x ∷ xs) =
@@ -149,11 +124,10 @@ filter_any n p (x ∷ xs) =
       ]
     ]
 
--- names in order that have the members of a list, and pass, are those of the list that pass, in order
-pub references_are : (p : List ℕ → Bool) (names used : List (List ℕ)) → Rises names → ((n : List ℕ) → list_any (bytes_eq n) names ≡ list_any (bytes_eq n) used) → filter p names ≡ set_by (λ full. full) (filter p used)
+-- names in order that are those of a list that pass
+pub references_are : (p : List ℕ → Bool) (names used : List (List ℕ)) → Rises names → ((n : List ℕ) → list_any (bytes_eq n) names ≡ (p n && list_any (bytes_eq n) used)) → names ≡ set_by (λ full. full) (filter p used)
 references_are p names used r h =
-    one_list (filter p names) (set_by (λ w. w) (filter p used)) (filter_rises p names r) (set_rises (filter p used))
-    (λ n. filter_any n p names ∙ ap (λ (b : Bool). p n && b) (h n) ∙ sym (filter_any n p used) ∙ sym (set_any n (filter p used)))
+    one_list names (set_by (λ w. w) (filter p used)) r (set_rises (filter p used)) (λ n. h n ∙ sym (filter_any n p used) ∙ sym (set_any n (filter p used)))
 
 -- a set's texts rise
 pub texts_rise : (ks : List (String Global)) → IsStrictlySortedBy string_cmp ks → Rises (map string_bytes ks)

@@ -2,7 +2,6 @@
 //! number each type is named.
 #![tactic(auto)]
 
-mod declared;
 mod instance_rows;
 mod lookups;
 mod makers;

@@ -24,7 +24,7 @@ const ALL: [Maker; 9] = [
     Maker::Version,
 ];
 
-fn add_used(makers: &mut Vec<Maker>, used: &Used, maker: Maker) -> Result<(), Memory>
+fn add_used(makers: &mut Vec<Maker>, used: &Used<'_>, maker: Maker) -> Result<(), Memory>
     ensures { OnOk result (makers.new.items ≡ (if has_maker used.now (maker_of maker) then makers.old.items ++ maker ∷ [] else makers.old.items)) }
 {
     if used.has_maker(maker) {
@@ -33,7 +33,7 @@ fn add_used(makers: &mut Vec<Maker>, used: &Used, maker: Maker) -> Result<(), Me
     Ok(())
 }
 
-fn used_among(alloc: Global, used: &Used, all: &[Maker]) -> Result<Vec<Maker>, Memory>
+fn used_among(alloc: Global, used: &Used<'_>, all: &[Maker]) -> Result<Vec<Maker>, Memory>
     ensures makers { IfOk result (λ makers. map maker_of makers.items ≡ filter (has_maker used.now) (map maker_of all.now)) }
     ensures few { IfOk result (λ makers. length makers.items ≤ length all.now) }
 {
@@ -45,7 +45,7 @@ fn used_among(alloc: Global, used: &Used, all: &[Maker]) -> Result<Vec<Maker>, M
 }
 
 /// Those that are used, in their order.
-pub(crate) fn used_makers(alloc: Global, used: &Used) -> Result<Vec<Maker>, Memory>
+pub(crate) fn used_makers(alloc: Global, used: &Used<'_>) -> Result<Vec<Maker>, Memory>
     ensures makers { IfOk result (λ makers. map maker_of makers.items ≡ filter (has_maker used.now) all_makers) }
     ensures few { IfOk result (λ makers. length makers.items ≤ 9) }
 {

@@ -6,11 +6,11 @@ ghost use Rattle.sig_blobs.specs.Numbers.{number_in};
 ghost use Rattle.winmd_lines.specs.Names as names;
 ghost use Rattle.winmd_names.specs.Numbers.{def_number, ref_number, row_code};
 
-use crate::declared::is_outside;
 use md_schema::{CodedIndex, Table, encode};
 use ranked::Memory;
 use sig_blobs::Tokens;
 use std::alloc::{AllocError, Global};
+use winmd_uses::is_outside;
 use wr_base::FullName;
 
 /// The most rows that a table has.

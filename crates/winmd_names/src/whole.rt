@@ -1,16 +1,15 @@
 //! The names of a set, from its declarations.
 
-ghost use Rattle.std.specs.Prelude.{◌≡◌, ◌≤◌, IfOk, OnOk, length, map, not, string_bytes};
+ghost use Rattle.std.specs.Prelude.{◌≡◌, ◌≤◌, IfOk, OnOk, length, map, string_bytes};
 ghost use Rattle.std.specs.List.{filter};
-ghost use Rattle.wr_base.specs.Declarations.{IsInOrder, name_of};
+ghost use Rattle.wr_base.specs.Declarations.{name_of};
 ghost use Rattle.wr_base.specs.Trees.{decl_tree, tree_of};
 ghost use Rattle.winmd_sets.specs.Rows as rows;
-ghost use Rattle.winmd_lines.specs.Names.{is_declared};
 ghost use Rattle.winmd_lines.specs.Makers.{all_makers};
 ghost use Rattle.winmd_uses.specs.Makers.{maker_of};
+ghost use Rattle.winmd_uses.specs.Orders.{Rises};
 ghost use Rattle.winmd_uses.specs.Takes.{all_names, has_maker, instances_of};
 ghost use Rattle.winmd_uses.specs.Uses.{IsUsed};
-ghost use Rattle.winmd_names.specs.Orders.{Rises};
 ghost use Rattle.winmd_names.specs.Seen.{seen};
 
 use crate::instance_rows::{in_order, rows_of};
@@ -24,8 +23,7 @@ use winmd_uses::{Maker, Used, uses_of};
 use wr_base::{FullName, TypeUse, Types};
 
 fn type_names(alloc: Global, types: &Types) -> Result<Vec<FullName>, Memory>
-    ensures names { IfOk result (λ names. names.items ≡ map name_of types.now) }
-    ensures order { IsInOrder types.now }
+    ensures { IfOk result (λ names. names.items ≡ map name_of types.now) }
 {
     let mut names = Vec::new(alloc);
     for i in 0..types.len() {
@@ -34,13 +32,13 @@ fn type_names(alloc: Global, types: &Types) -> Result<Vec<FullName>, Memory>
     Ok(names)
 }
 
-fn named(alloc: Global, types: &Types, used: &Used) -> Result<TypeNames, Memory>
+fn named(alloc: Global, types: &Types, used: &Used<'_>) -> Result<TypeNames, Memory>
     ensures types { IfOk result (λ names. names.types.items ≡ map name_of types.now) }
-    ensures refs { IfOk result (λ names. map string_bytes names.refs.items ≡ filter (λ full. not (is_declared (map name_of types.now) full)) (all_names used.now)) }
+    ensures refs { IfOk result (λ names. map string_bytes names.refs.items ≡ all_names used.now) }
     ensures ordered { OnOk result (Rises (all_names used.now)) }
 {
     let types = type_names(alloc, types)?;
-    let refs = references(alloc, types.as_slice(), used.names())?;
+    let refs = references(alloc, used.names())?;
     Ok(TypeNames { types, refs })
 }
 
@@ -76,7 +74,7 @@ fn with_numbers(
 
 fn with_makers(
     alloc: Global,
-    used: &Used,
+    used: &Used<'_>,
     types: TypeNames,
     instances: InstanceRows,
 ) -> Result<SetNames, Memory>
@@ -86,14 +84,14 @@ fn with_makers(
     with_numbers(alloc, types, instances, makers)
 }
 
-fn with_instances(alloc: Global, used: &Used, types: TypeNames) -> Result<SetNames, Memory>
+fn with_instances(alloc: Global, used: &Used<'_>, types: TypeNames) -> Result<SetNames, Memory>
     ensures { IfOk result (λ names. (names.types ≡ types) × (map tree_of names.instances.list.items ≡ rows.by_text (instances_of used.now)) × (map maker_of names.makers.items ≡ filter (has_maker used.now) all_makers)) }
 {
     let instances = instance_rows(alloc, used.instances())?;
     with_makers(alloc, used, types, instances)
 }
 
-fn names_for(alloc: Global, types: &Types, used: &Used) -> Result<SetNames, Memory>
+fn names_for(alloc: Global, types: &Types, used: &Used<'_>) -> Result<SetNames, Memory>
     requires { IsUsed (map decl_tree types.now) used.now }
     ensures { IfOk result (λ names. seen names ≡ rows.names_of (map decl_tree types.now)) }
 {

@@ -293,7 +293,7 @@ names_are ds name =
     ∙ ap (λ (b : Bool). list_any (bytes_eq name) (used names_in_cell own) || b) (sym (made_in name (used_specs own) (used_makers own)))
     ∙ sym (in_both name own (made_lines (used_specs own) (used_makers own)))
 
-same_names : (ds : List Declaration) → map declared.name_of ds ≡ map name_of (map decl_tree ds)
+pub same_names : (ds : List Declaration) → map declared.name_of ds ≡ map name_of (map decl_tree ds)
 same_names [] = refl
 same_names (d ∷ ds) = ap (λ (n : List ℕ). n ∷ map declared.name_of ds) (sym (name_of-decl_tree d)) ∙ ap (λ (ns : List (List ℕ)). name_of (decl_tree d) ∷ ns) (same_names ds)
 

@@ -1,3 +1,4 @@
+pub mod Orders
 pub mod Makers
 pub mod Keys
 pub mod Known

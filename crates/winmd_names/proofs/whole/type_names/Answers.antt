@@ -7,5 +7,5 @@ loop-i-preserved c =
     names_turn c.args.types.now c.loop-i.i c.at.result.now c.name.result.now c.loop-i.names.items c.push.new.self.items c.at.ensures.value c.name.ensures c.loop-i.invariant
     (c.in_ok-push.ensures.items ∙ ap (λ (n : List ℕ). c.loop-i.names.items ++ n ∷ []) c.in_ok-clone.ensures.cases)
 
-pub returns-clause-names : goal.returns-clause-names
-returns-clause-names c = names_all c.args.types.now c.loop-i.i c.loop-i.names.items (omega (arith, c.len-i-end.ensures.len)) c.loop-i.invariant
+pub returns : goal.returns
+returns c = names_all c.args.types.now c.loop-i.i c.loop-i.names.items (omega (arith, c.len-i-end.ensures.len)) c.loop-i.invariant

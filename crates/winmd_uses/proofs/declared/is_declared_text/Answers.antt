@@ -1,4 +1,4 @@
-use Rattle.std.proofs.Common.{ap, map, sym, ◌∙◌}
+use Rattle.std.proofs.Common.{ap, map, ◌∙◌}
 use Rattle.wr_base.specs.Declarations.{name_of}
 use Rattle.winmd_lines.specs.Names.{is_outside}
 use Rattle.winmd_uses.proofs.OrderLaws.{declared_at, declared_none, found_name}
