@@ -1,3 +1,4 @@
+pub mod TextLaws
 pub mod TakeLaws
 pub mod OrderLaws
 pub mod UseLaws
@@ -6,4 +7,5 @@ pub mod DefaultLaws
 pub mod MemberLaws
 pub mod KnownLaws
 pub mod KindLaws
+pub mod AddLaws
 pub mod WholeLaws

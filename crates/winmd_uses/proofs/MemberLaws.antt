@@ -31,7 +31,8 @@ use Rattle.winmd_uses.specs.Earlier.{event_says, method_lines_if, names_after, t
 use Rattle.winmd_uses.specs.Kinds.{made_if, nothing}
 use Rattle.winmd_uses.specs.Takes.{Says, Takes, both, cell_says, lines_say, named_by, names_alone}
 use Rattle.winmd_uses.specs.declared.used.Used.{Used}
-use Rattle.winmd_uses.proofs.TakeLaws.{Same, same_again, same_back, same_both, same_lists, same_none, same_refl, same_trans, lines_both, or_false, takes_as, takes_none, takes_only, takes_then, text_put}
+use Rattle.winmd_uses.proofs.TakeLaws.{Same, same_again, same_back, same_both, same_lists, same_none, same_refl, same_trans, lines_both, or_false, takes_as, takes_none, takes_only, takes_then}
+use Rattle.winmd_uses.proofs.TextLaws.{text_put}
 
 -- ---- methods
 

@@ -15,7 +15,8 @@ use Rattle.wr_base.specs.declared.declaration.Declaration.{Declaration}
 use Rattle.wr_base.specs.Declarations.{Precedes, declared_as, name_of}
 use Rattle.winmd_lines.specs.Names.{is_declared, is_outside}
 use Rattle.winmd_uses.specs.Orders.{Rises}
-use Rattle.winmd_uses.proofs.TakeLaws.{bytes_turned, either}
+use Rattle.winmd_uses.proofs.TakeLaws.{either}
+use Rattle.winmd_uses.proofs.TextLaws.{bytes_turned}
 
 pub apart : (a b : List ℕ) → slice_cmp nat_cmp a b ≡ Less → bytes_eq b a ≡ false
 apart a b e = sym (is_eq-slice_cmp b a) ∙ ap is_eq (nat_list_cmp_total.antisymm b a ∙ ap ordering_reverse e)

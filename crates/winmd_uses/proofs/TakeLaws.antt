@@ -1,13 +1,9 @@
 -- What is taken one after the other.
-use Rattle.std.proofs.Common.{◌≡◌, ℕ, ◌+◌, ◌<◌, ◌≤◌, Bool, true, false, cond, List, [], ◌∷◌, ◌++◌, map, take, get_or, length, Result, Ok, Err, OnOk, Some, slice_get, refl, sym, ap, subst, ◌∙◌, append-nil, inl, inr}
-use Rattle.std.specs.Prelude.{◌||◌, ◌&&◌, not, ◌⊎◌, String, string_bytes}
-use Rattle.std.specs.BTreeSet.{BTreeSet, Updates, contains_text}
-use Rattle.std.specs.Cmp.{both_ways}
+use Rattle.std.proofs.Common.{◌≡◌, ℕ, ◌+◌, ◌<◌, ◌≤◌, Bool, true, false, List, [], ◌∷◌, ◌++◌, map, take, get_or, length, Result, Ok, Err, OnOk, Some, slice_get, refl, sym, ap, subst, ◌∙◌, append-nil, inl, inr}
+use Rattle.std.specs.Prelude.{◌||◌, ◌&&◌, not, ◌⊎◌, String}
+use Rattle.std.specs.BTreeSet.{BTreeSet, contains_text}
 use Rattle.std.specs.Cmp.Lexicographic.{bytes_decides}
-use Rattle.std.specs.HashSet as hash
-use Rattle.std.specs.String.{string_cmp, string_eq}
 use Rattle.std.specs.declared.alloc.Global.{Global}
-use Rattle.std.proofs.lemmas.Map.Text.{btree_set_updates_text, hash_set_updates_text}
 use Rattle.std.specs.List.{list_any, flat_map}
 use Rattle.std.specs.Str.{bytes_eq}
 use Rattle.std.proofs.lemmas.List.{take_more, take_all}
@@ -24,7 +20,6 @@ use Rattle.winmd_lines.specs.UsedNames.{names_in_signature}
 use Rattle.winmd_lines.specs.Names.{is_declared, is_maker, makers_in_cell, specs_in_cell}
 use Rattle.winmd_uses.specs.Instances.{Adds, Agrees, add_once, all_of}
 use Rattle.winmd_uses.specs.Kinds.{nothing}
-use Rattle.winmd_uses.specs.Known.{Hashed}
 use Rattle.winmd_uses.specs.Takes.{Says, Takes, add_each, both, cell_says, has_maker, has_name, instances_of, is_foreign, lines_say, maker_alone, named_by, names_alone, spec_alone}
 use Rattle.winmd_uses.specs.declared.names.Names.{Names}
 use Rattle.winmd_uses.specs.declared.used.Used.{Used}
@@ -210,33 +205,7 @@ none_of_none f h (x ∷ xs) = ap (λ ys. ys ++ flat_map f xs) (h x) ∙ none_of_
 pub each_names : {X Y : Type 0} (f : Y → List (List ℕ)) (h : X → Y) (xs : List X) → Same (each (λ x. names_alone (f (h x))) xs) (names_alone (flat_map f (map h xs)))
 each_names f h xs = same_lists (each (λ x. names_alone (f (h x))) xs) (names_alone (flat_map f (map h xs))) (flat_of_map f h xs) (none_of_none (λ x. (names_alone (f (h x))).makers) (λ x. refl) xs) (none_of_none (λ x. (names_alone (f (h x))).specs) (λ x. refl) xs)
 
--- ---- texts in a set
-
-pub bytes_turned : (a b : List ℕ) → bytes_eq a b ≡ bytes_eq b a
-bytes_turned a b =
-    both_ways (bytes_eq a b) (bytes_eq b a) (λ e. (bytes_decides b a).1 (sym ((bytes_decides a b).0 e))) (λ e. (bytes_decides a b).1 (sym ((bytes_decides b a).0 e)))
-
-cond_or : (b c : Bool) → cond b true c ≡ (b || c)
-cond_or true c = refl
-cond_or false c = refl
-
--- what is put at one text
-put_is : (a b : List ℕ) (c : Bool) → cond (bytes_eq a b) true c ≡ (bytes_eq b a || c)
-put_is a b c = cond_or (bytes_eq a b) c ∙ ap (λ (x : Bool). x || c) (bytes_turned a b)
-
-or_turned : (a b : Bool) → (a || b) ≡ (b || a)
-or_turned true true = refl
-or_turned true false = refl
-or_turned false true = refl
-or_turned false false = refl
-
--- a text is put into a set
-pub text_put : (s n : BTreeSet (String Global)) (text : String Global) → Updates string_cmp s n text true → (other : List ℕ) → contains_text n other ≡ (bytes_eq other (string_bytes text) || contains_text s other)
-text_put s n text u other = btree_set_updates_text (string_bytes text) s n true u other ∙ put_is (string_bytes text) other (contains_text s other)
-
--- the same by hashes
-pub text_marked : (s n : Hashed (String Global)) (text : String Global) → hash.Updates string_eq s n text true → (other : List ℕ) → hash.contains_text n other ≡ (bytes_eq other (string_bytes text) || hash.contains_text s other)
-text_marked s n text u other = hash_set_updates_text (string_bytes text) s n true u other ∙ put_is (string_bytes text) other (hash.contains_text s other)
+-- ---- names and instances
 
 or_true : (a : Bool) → (a || true) ≡ true
 or_true true = refl
@@ -282,6 +251,17 @@ takes_instance u g h t n m a = record {
   agrees = a.agrees;
   specs = a.all;
 }
+
+-- nothing is taken where names, constructors and instances stay
+pub takes_same : {X : Type 0} (r : Result Unit X) (g h : Used) → h.types ≡ g.types → h.names.set ≡ g.names.set → h.makers ≡ g.makers → h.instances ≡ g.instances → OnOk r (Takes nothing g h)
+takes_same (Ok x) g h t n m i = record {
+  types = λ j. (t j).now;
+  names = λ other. ap (λ (s : BTreeSet (String Global)). contains_text s other) n ∙ sym (or_and_false (has_name g other) (is_foreign g other));
+  makers = λ maker. ap (λ (ms : List Bool). get_or ms (maker_number maker) false) m ∙ sym (or_false (has_maker g maker));
+  agrees = λ a. subst Agrees (sym i) a;
+  specs = λ a. ap all_of i;
+}
+takes_same (Err z) g h t n m i = tt
 
 pub takes_instance_if : {X : Type 0} (r : Result Unit X) (u : UseTree) (g h : Used) → h.types ≡ g.types → h.names ≡ g.names → h.makers ≡ g.makers → OnOk r (Adds u g.instances h.instances) → OnOk r (Takes (spec_alone u) g h)
 takes_instance_if (Ok x) u g h t n m a = takes_instance u g h t n m a

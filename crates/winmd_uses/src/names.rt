@@ -1,21 +1,26 @@
 //! Names, each once.
 
-ghost use Rattle.std.specs.Prelude.{◌≡◌, ◌||◌, true, false, IsTrue, ℕ, List, OnOk, OnErr, bytes_eq, string_bytes};
+ghost use Rattle.std.specs.Prelude.{◌≡◌, ◌||◌, true, false, IsTrue, ℕ, List, Some, OnOk, OnErr, bytes_eq, string_bytes};
 ghost use Rattle.std.specs.BTreeSet.{IsUnchanged, Updates, contains_text};
 ghost use Rattle.std.specs.HashSet as hash;
 ghost use Rattle.std.specs.String.{string_cmp, string_eq};
-ghost use Rattle.winmd_uses.specs.Known.{AllThere};
+ghost use Rattle.std.specs.HashMap as counted;
+ghost use Rattle.sig_blobs.specs.Templates.{template};
+ghost use Rattle.winmd_uses.specs.Known.{AllFormed, AllThere};
 
 use ranked::Memory;
 use std::alloc::{AllocError, Global};
-use std::collections::{BTreeSet, HashSet};
+use std::collections::{BTreeSet, HashMap, HashSet};
 
-/// A set of names in their order, and the same names by their hashes: most uses repeat one of them.
+/// A set of names in their order, and the same names by their hashes: most uses repeat one of them. Of a name with arguments, the number of
+/// arguments with which it was taken last.
 #[derive(Drop)]
 pub struct Names {
     pub(crate) set: BTreeSet<String>,
     pub(crate) known: HashSet<String>,
+    pub(crate) counts: HashMap<String, usize>,
     ghost there: { AllThere set known },
+    ghost formed: { AllFormed set counts },
 }
 
 fn put(set: &mut BTreeSet<String>, name: String) -> Result<(), Memory>
@@ -38,6 +43,16 @@ fn mark(known: &mut HashSet<String>, name: String) -> Result<(), Memory>
     }
 }
 
+fn count(counts: &mut HashMap<String, usize>, name: String, number: usize) -> Result<(), Memory>
+    ensures added { OnOk result (counted.Updates string_eq counts.old counts.new name (Some number)) }
+    ensures unchanged { OnErr result (counted.IsUnchanged counts.old counts.new) }
+{
+    match counts.insert(name, number) {
+        Ok(_) => Ok(()),
+        Err(_) => Err(AllocError),
+    }
+}
+
 impl Names {
     pub(crate) fn new(alloc: Global) -> Names
         ensures { (name : List ℕ) → contains_text result.set name ≡ false }
@@ -45,6 +60,7 @@ impl Names {
         Names {
             set: BTreeSet::new(alloc),
             known: HashSet::new(alloc),
+            counts: HashMap::new(alloc),
         }
     }
 
@@ -60,6 +76,24 @@ impl Names {
         ensures { IsTrue result → contains_text self.now.set name.now ≡ true }
     {
         self.known.contains(name)
+    }
+
+    /// Whether the template of a name and so many arguments is known to be among them.
+    pub(crate) fn has_formed(&self, name: &str, number: usize) -> bool
+        ensures { IsTrue result → contains_text self.now.set (template name.now number) ≡ true }
+    {
+        match self.counts.get(name) {
+            Some(count) => *count == number,
+            None => false,
+        }
+    }
+
+    /// Remembers that it is among them.
+    pub(crate) fn form(&mut self, alloc: Global, name: &str, number: usize) -> Result<(), Memory>
+        requires { contains_text self.old.set (template name.now number) ≡ true }
+        ensures { self.new.set ≡ self.old.set }
+    {
+        count(&mut self.counts, String::from_str(alloc, name)?, number)
     }
 
     fn add(&mut self, name: String, again: String) -> Result<(), Memory>

@@ -6,6 +6,7 @@ ghost use Rattle.sig_blobs.specs.Templates as templates;
 ghost use Rattle.wr_base.specs.Trees.{param_tree, signature_tree, tree_of};
 ghost use Rattle.winmd_lines.specs.Lines.{Type_};
 ghost use Rattle.winmd_lines.specs.UsedNames.{names_in_base, names_in_result, names_in_signature, names_in_use};
+ghost use Rattle.winmd_uses.specs.Kinds.{nothing};
 ghost use Rattle.winmd_uses.specs.Takes.{Takes, cell_says, names_alone};
 
 use crate::used::Used;
@@ -23,11 +24,32 @@ impl Used<'_> {
         }
     }
 
-    fn take_template(&mut self, name: &FullName, count: usize) -> Result<(), Memory>
+    // Remembers a template that was taken, by its parts.
+    fn form(&mut self, name: &FullName, count: usize, full: &str) -> Result<(), Memory>
+        requires { full.now ≡ templates.template name.now count }
+        ensures { OnOk result (Takes nothing self.old self.new) }
+    {
+        if self.names.knows(full) {
+            return self.names.form(self.alloc, name.as_str(), count);
+        }
+        Ok(())
+    }
+
+    fn take_new_template(&mut self, name: &FullName, count: usize) -> Result<(), Memory>
         ensures { OnOk result (Takes (names_alone (templates.template name.now count ∷ [])) self.old self.new) }
     {
         let full = template(self.alloc, name, count)?;
-        self.take_name(full.as_str())
+        self.take_name(full.as_str())?;
+        self.form(name, count, full.as_str())
+    }
+
+    fn take_template(&mut self, name: &FullName, count: usize) -> Result<(), Memory>
+        ensures { OnOk result (Takes (names_alone (templates.template name.now count ∷ [])) self.old self.new) }
+    {
+        if self.names.has_formed(name.as_str(), count) {
+            return Ok(());
+        }
+        self.take_new_template(name, count)
     }
 
     /// The names in a use.
