@@ -27,7 +27,7 @@ use Rattle.winmd_lines.specs.Names.{is_maker, used, makers_in_cell, specs_in_cel
 use Rattle.winmd_lines.specs.UsedNames.{names_in_signature, names_in_use}
 use Rattle.winmd_sets.specs.Members.{when, attribute, param_lines, signature_lines, accessor, getter, setter, adder, remover, member_lines, members_lines, method_names}
 use Rattle.winmd_sets.specs.Values.{words_argument}
-use Rattle.winmd_uses.specs.Earlier.{event_says, method_lines_if, names_after, texts_in}
+use Rattle.winmd_uses.specs.Earlier.{event_says, is_repeat, member_lines_if, method_lines_if, names_after, texts_in}
 use Rattle.winmd_uses.specs.Kinds.{made_if, nothing}
 use Rattle.winmd_uses.specs.Takes.{Says, Takes, both, cell_says, lines_say, named_by, names_alone}
 use Rattle.winmd_uses.specs.declared.used.Used.{Used}
@@ -164,6 +164,49 @@ after_more : (earlier : List (List ℕ)) (ms : List MemberTree) (m : MemberTree)
 after_more earlier [] m = refl
 after_more earlier (x ∷ xs) m = after_more (method_names x ++ earlier) xs m
 
+pub lines_if : (earlier : List (List ℕ)) (m : MemberTree) (repeated : Bool) → repeated ≡ is_repeat earlier m → member_lines_if repeated m ≡ member_lines earlier m
+lines_if earlier (method name abi sig) repeated e = ap (λ (t : Bool). method_lines_if t name abi sig) e
+lines_if earlier (property name u put) repeated e = refl
+lines_if earlier (event name u) repeated e = refl
+
+-- one of the members is a method of this name
+pub names_any : (name : List ℕ) (ms : List Member) → list_any (λ (m : Member). list_any (bytes_eq name) (method_names (member_tree m))) ms ≡ list_any (bytes_eq name) (names_after [] (map member_tree ms))
+names_any name ms = sym (or_false (list_any (λ (m : Member). list_any (bytes_eq name) (method_names (member_tree m))) ms)) ∙ sym (go [] ms)
+  where
+    moved : (l m a : Bool) → (l || (m || a)) ≡ ((m || l) || a)
+    moved true true a = refl
+    moved true false a = refl
+    moved false true a = refl
+    moved false false a = refl
+
+    go : (earlier : List (List ℕ)) (ms : List Member)
+        → list_any (bytes_eq name) (names_after earlier (map member_tree ms)) ≡ (list_any (λ (m : Member). list_any (bytes_eq name) (method_names (member_tree m))) ms || list_any (bytes_eq name) earlier)
+    go earlier [] = refl
+    go earlier (m ∷ ms) =
+        go (method_names (member_tree m) ++ earlier) ms
+        ∙ ap (λ (b : Bool). list_any (λ (x : Member). list_any (bytes_eq name) (method_names (member_tree x))) ms || b) (list_any-append (bytes_eq name) (method_names (member_tree m)) earlier)
+        ∙ moved (list_any (λ (x : Member). list_any (bytes_eq name) (method_names (member_tree x))) ms) (list_any (bytes_eq name) (method_names (member_tree m))) (list_any (bytes_eq name) earlier)
+
+-- one member more is taken
+pub few_more : (ms : List Member) (i : ℕ) (m : Member) (g h k : Used) → i < length ms → m ≡ get_or ms i m → Takes (lines_say (members_lines [] (map member_tree (take i ms)))) g h
+    → Takes (lines_say (member_lines (names_after [] (map member_tree (take i ms))) (member_tree m))) h k → Takes (lines_say (members_lines [] (map member_tree (take (i + 1) ms)))) g k
+few_more ms i m g h k l e p x =
+    let so_far : List MemberTree = map member_tree (take i ms) in
+    let more : map member_tree (take (i + 1) ms) ≡ so_far ++ member_tree m ∷ [] = ap (map member_tree) (take_more ms i m l ∙ ap (λ y. take i ms ++ y ∷ []) (sym e)) ∙ map-append member_tree (take i ms) (m ∷ []) in
+    let all : Takes (lines_say (members_lines [] so_far ++ member_lines (names_after [] so_far) (member_tree m))) g k =
+    takes_as (both (lines_say (members_lines [] so_far)) (lines_say (member_lines (names_after [] so_far) (member_tree m)))) (lines_say (members_lines [] so_far ++ member_lines (names_after [] so_far) (member_tree m))) g k
+    (lines_both (members_lines [] so_far) (member_lines (names_after [] so_far) (member_tree m)))
+    (takes_then (lines_say (members_lines [] so_far)) (lines_say (member_lines (names_after [] so_far) (member_tree m))) g h k p x) in
+    subst (λ (mt : List MemberTree). Takes (lines_say (members_lines [] mt)) g k) (sym more) (subst (λ (ls : List Line). Takes (lines_say ls) g k) (sym (members_more [] so_far (member_tree m))) all)
+
+-- the same, as the member was taken
+pub few_turn : (ms : List Member) (i : ℕ) (m : Member) (repeated : Bool) (g h k : Used) → i < length ms → m ≡ get_or ms i m → repeated ≡ is_repeat (names_after [] (map member_tree (take i ms))) (member_tree m)
+    → Takes (lines_say (members_lines [] (map member_tree (take i ms)))) g h → Takes (lines_say (member_lines_if repeated (member_tree m))) h k → Takes (lines_say (members_lines [] (map member_tree (take (i + 1) ms)))) g k
+few_turn ms i m repeated g h k l e r p x = few_more ms i m g h k l e p (subst (λ (ls : List Line). Takes (lines_say ls) h k) (lines_if (names_after [] (map member_tree (take i ms))) (member_tree m) repeated r) x)
+
+pub few_all : (ms : List Member) (i : ℕ) (g h : Used) → length ms ≤ i → Takes (lines_say (members_lines [] (map member_tree (take i ms)))) g h → Takes (lines_say (members_lines [] (map member_tree ms))) g h
+few_all ms i g h all t = subst (λ (xs : List Member). Takes (lines_say (members_lines [] (map member_tree xs))) g h) (take_all i ms all) t
+
 -- what a loop over members has taken
 pub record Passed (ms : List Member) (i : ℕ) (g h : Used) (earlier : BTreeSet (String Global)) : Type 0 where
   pub takes : Takes (lines_say (members_lines [] (map member_tree (take i ms)))) g h
@@ -177,12 +220,8 @@ passed_more ms i m g h k s t l e p x n =
     let more : map member_tree (take (i + 1) ms) ≡ so_far ++ member_tree m ∷ [] = ap (map member_tree) (take_more ms i m l ∙ ap (λ y. take i ms ++ y ∷ []) (sym e)) ∙ map-append member_tree (take i ms) (m ∷ []) in
     let lines : member_lines (texts_in s) (member_tree m) ≡ member_lines (names_after [] so_far) (member_tree m) = member_same (member_tree m) (texts_in s) (names_after [] so_far) (λ name. sym (contains_texts s name) ∙ p.names name) in
     let last : Takes (lines_say (member_lines (names_after [] so_far) (member_tree m))) h k = subst (λ (ls : List Line). Takes (lines_say ls) h k) lines x in
-    let all : Takes (lines_say (members_lines [] so_far ++ member_lines (names_after [] so_far) (member_tree m))) g k =
-    takes_as (both (lines_say (members_lines [] so_far)) (lines_say (member_lines (names_after [] so_far) (member_tree m)))) (lines_say (members_lines [] so_far ++ member_lines (names_after [] so_far) (member_tree m))) g k
-    (lines_both (members_lines [] so_far) (member_lines (names_after [] so_far) (member_tree m)))
-    (takes_then (lines_say (members_lines [] so_far)) (lines_say (member_lines (names_after [] so_far) (member_tree m))) g h k p.takes last) in
     record {
-      takes = subst (λ (mt : List MemberTree). Takes (lines_say (members_lines [] mt)) g k) (sym more) (subst (λ (ls : List Line). Takes (lines_say ls) g k) (sym (members_more [] so_far (member_tree m))) all);
+      takes = few_more ms i m g h k l e p.takes last;
       names = λ name.
           n name ∙ ap (λ (b : Bool). list_any (bytes_eq name) (method_names (member_tree m)) || b) (p.names name) ∙ sym (list_any-append (bytes_eq name) (method_names (member_tree m)) (names_after [] so_far))
           ∙ ap (list_any (bytes_eq name)) (sym (after_more [] so_far (member_tree m))) ∙ ap (λ (mt : List MemberTree). list_any (bytes_eq name) (names_after [] mt)) (sym more);
@@ -200,23 +239,22 @@ pub passed_none : (ms : List Member) (g : Used) (s : BTreeSet (String Global)) �
 passed_none ms g s e = record { takes = takes_none g; names = λ name. contains_texts s name ∙ ap (λ (ks : List (String Global)). list_any (bytes_eq name) (map string_bytes ks)) e }
 
 pub passed_all : (ms : List Member) (i : ℕ) (g h : Used) (s : BTreeSet (String Global)) → length ms ≤ i → Passed ms i g h s → Takes (lines_say (members_lines [] (map member_tree ms))) g h
-passed_all ms i g h s all p = subst (λ (xs : List Member). Takes (lines_say (members_lines [] (map member_tree xs))) g h) (take_all i ms all) p.takes
+passed_all ms i g h s all p = few_all ms i g h all p.takes
 
 -- a member of each kind, as it was taken
-pub method_taken : {X : Type 0} (r : Result Unit X) (m : Member) (name abi : List ℕ) (sig : Signature) (earlier : List (List ℕ)) (repeated : Bool) (g h : Used) → m ≡ Method name abi sig → repeated ≡ list_any (bytes_eq name) earlier
-    → OnOk r (Takes (lines_say (method_lines_if repeated name abi (signature_tree sig))) g h) → OnOk r (Takes (lines_say (member_lines earlier (member_tree m))) g h)
-method_taken (Ok x) m name abi sig earlier repeated g h is e t =
-    subst (λ (w : Member). Takes (lines_say (member_lines earlier (member_tree w))) g h) (sym is) (subst (λ (b : Bool). Takes (lines_say (method_lines_if b name abi (signature_tree sig))) g h) e t)
-method_taken (Err z) m name abi sig earlier repeated g h is e t = tt
+pub method_taken : {X : Type 0} (r : Result Unit X) (m : Member) (name abi : List ℕ) (sig : Signature) (repeated : Bool) (g h : Used) → m ≡ Method name abi sig
+    → OnOk r (Takes (lines_say (method_lines_if repeated name abi (signature_tree sig))) g h) → OnOk r (Takes (lines_say (member_lines_if repeated (member_tree m))) g h)
+method_taken (Ok x) m name abi sig repeated g h is t = subst (λ (w : Member). Takes (lines_say (member_lines_if repeated (member_tree w))) g h) (sym is) t
+method_taken (Err z) m name abi sig repeated g h is t = tt
 
-pub property_taken : {X : Type 0} (r : Result Unit X) (m : Member) (name : List ℕ) (ty : TypeUse) (put : Bool) (earlier : List (List ℕ)) (g h : Used) → m ≡ Property name ty put
-    → OnOk r (Takes (names_alone (names_in_use (tree_of ty))) g h) → OnOk r (Takes (lines_say (member_lines earlier (member_tree m))) g h)
-property_taken r m name ty put earlier g h is t =
-    takes_only r (names_alone (names_in_use (tree_of ty))) (lines_say (member_lines earlier (member_tree m))) g h
-    (subst (λ (w : Member). Same (names_alone (names_in_use (tree_of ty))) (lines_say (member_lines earlier (member_tree w)))) (sym is) (property_says earlier name (tree_of ty) put)) t
+pub property_taken : {X : Type 0} (r : Result Unit X) (m : Member) (name : List ℕ) (ty : TypeUse) (put repeated : Bool) (g h : Used) → m ≡ Property name ty put
+    → OnOk r (Takes (names_alone (names_in_use (tree_of ty))) g h) → OnOk r (Takes (lines_say (member_lines_if repeated (member_tree m))) g h)
+property_taken r m name ty put repeated g h is t =
+    takes_only r (names_alone (names_in_use (tree_of ty))) (lines_say (member_lines_if repeated (member_tree m))) g h
+    (subst (λ (w : Member). Same (names_alone (names_in_use (tree_of ty))) (lines_say (member_lines_if repeated (member_tree w)))) (sym is) (property_says [] name (tree_of ty) put)) t
 
-pub event_taken : {X : Type 0} (r : Result Unit X) (m : Member) (name : List ℕ) (ty : TypeUse) (earlier : List (List ℕ)) (g h : Used) → m ≡ Event name ty
-    → OnOk r (Takes (event_says (tree_of ty)) g h) → OnOk r (Takes (lines_say (member_lines earlier (member_tree m))) g h)
-event_taken r m name ty earlier g h is t =
-    takes_only r (event_says (tree_of ty)) (lines_say (member_lines earlier (member_tree m))) g h
-    (subst (λ (w : Member). Same (event_says (tree_of ty)) (lines_say (member_lines earlier (member_tree w)))) (sym is) (event_is earlier name (tree_of ty))) t
+pub event_taken : {X : Type 0} (r : Result Unit X) (m : Member) (name : List ℕ) (ty : TypeUse) (repeated : Bool) (g h : Used) → m ≡ Event name ty
+    → OnOk r (Takes (event_says (tree_of ty)) g h) → OnOk r (Takes (lines_say (member_lines_if repeated (member_tree m))) g h)
+event_taken r m name ty repeated g h is t =
+    takes_only r (event_says (tree_of ty)) (lines_say (member_lines_if repeated (member_tree m))) g h
+    (subst (λ (w : Member). Same (event_says (tree_of ty)) (lines_say (member_lines_if repeated (member_tree w)))) (sym is) (event_is [] name (tree_of ty))) t

@@ -10,6 +10,7 @@ mod kinds;
 mod makers;
 mod members;
 mod names;
+mod repeats;
 mod takes;
 mod used;
 mod uses;

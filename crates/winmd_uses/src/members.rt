@@ -5,11 +5,12 @@ ghost use Rattle.std.specs.List.{list_any};
 ghost use Rattle.std.specs.BTreeSet.{Updates, contains_text};
 ghost use Rattle.std.specs.String.{string_cmp};
 ghost use Rattle.wr_base.specs.Trees.{member_tree, signature_tree, tree_of};
-ghost use Rattle.winmd_sets.specs.Members.{member_lines, members_lines, method_names};
-ghost use Rattle.winmd_uses.specs.Earlier.{event_says, method_lines_if, texts_in};
+ghost use Rattle.winmd_sets.specs.Members.{members_lines, method_names};
+ghost use Rattle.winmd_uses.specs.Earlier.{event_says, member_lines_if, method_lines_if};
 ghost use Rattle.winmd_uses.specs.Takes.{Takes, lines_say};
 
 use crate::makers::Maker;
+use crate::repeats::{FEW, is_noted, repeats};
 use crate::used::Used;
 use ranked::{Memory, Name};
 use std::alloc::{AllocError, Global};
@@ -64,26 +65,44 @@ impl Used<'_> {
         self.take_name("Windows.Foundation.EventRegistrationToken")
     }
 
-    fn take_member(&mut self, earlier: &BTreeSet<String>, member: &Member) -> Result<(), Memory>
-        ensures { OnOk result (Takes (lines_say (member_lines (texts_in earlier.now) (member_tree member.now))) self.old self.new) }
+    fn take_member(&mut self, member: &Member, repeated: bool) -> Result<(), Memory>
+        ensures { OnOk result (Takes (lines_say (member_lines_if repeated (member_tree member.now))) self.old self.new) }
     {
         match member {
-            Member::Method { name, abi, sig } => {
-                self.take_method(name, abi, sig, earlier.contains(name.as_str()))
-            }
+            Member::Method { name, abi, sig } => self.take_method(name, abi, sig, repeated),
             Member::Property { ty, .. } => self.take_use(ty),
             Member::Event { ty, .. } => self.take_event(ty),
         }
     }
 
-    pub(crate) fn take_members(&mut self, members: &[Member]) -> Result<(), Memory>
+    fn take_few(&mut self, members: &[Member]) -> Result<(), Memory>
+        ensures { OnOk result (Takes (lines_say (members_lines [] (map member_tree members.now))) self.old self.new) }
+    {
+        for i in 0..members.len() {
+            let member = &members[i];
+            self.take_member(member, repeats(&members[..i], member))?;
+        }
+        Ok(())
+    }
+
+    fn take_many(&mut self, members: &[Member]) -> Result<(), Memory>
         ensures { OnOk result (Takes (lines_say (members_lines [] (map member_tree members.now))) self.old self.new) }
     {
         let mut earlier = BTreeSet::new(self.alloc);
         for member in members {
-            self.take_member(&earlier, member)?;
+            self.take_member(member, is_noted(&earlier, member))?;
             note(self.alloc, &mut earlier, member)?;
         }
         Ok(())
+    }
+
+    pub(crate) fn take_members(&mut self, members: &[Member]) -> Result<(), Memory>
+        ensures { OnOk result (Takes (lines_say (members_lines [] (map member_tree members.now))) self.old self.new) }
+    {
+        if members.len() <= FEW {
+            self.take_few(members)
+        } else {
+            self.take_many(members)
+        }
     }
 }
