@@ -7,3 +7,4 @@ pub mod DisorderLemmas
 pub mod HeaderLemmas
 pub mod WholeLemmas
 pub mod WritableLemmas
+pub mod WidthLemmas

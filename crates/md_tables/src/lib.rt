@@ -2,6 +2,7 @@
 #![tactic(auto)]
 
 mod bits;
+mod cells;
 mod fields;
 mod header;
 mod lists;
@@ -15,6 +16,7 @@ mod writable;
 mod write;
 
 pub use bits::{bit_count, has_bit};
+pub use cells::{Cells, widths};
 pub use numbers::place;
 pub use read::read_tables;
 pub use set::TableSet;

@@ -4,6 +4,7 @@ ghost use Rattle.std.specs.Prelude.{◌≡◌, ◌<◌, ◌^◌, length};
 ghost use Rattle.md_tables.specs.Lists.{cells_in};
 ghost use Rattle.md_tables.specs.Faults as faults;
 
+use crate::cells::Cells;
 use md_schema::Table;
 
 /// A list of rows: the column of the owner's rows that says where each one's list begins in another table (ECMA-335 II.22).
@@ -43,7 +44,7 @@ pub const ROW_LISTS: [RowList; 5] = [
     },
 ];
 
-fn list_begin(rows: &[Vec<u32>], column: usize, row: usize) -> u32
+fn list_begin(rows: &[Cells], column: usize, row: usize) -> u32
     ensures { result ≡ faults.list_begin (cells_in rows.now) column row }
 {
     if row < rows.len() && column < rows[row].len() {
@@ -53,7 +54,7 @@ fn list_begin(rows: &[Vec<u32>], column: usize, row: usize) -> u32
     }
 }
 
-fn list_end(rows: &[Vec<u32>], column: usize, members: u32, row: usize) -> u64
+fn list_end(rows: &[Cells], column: usize, members: u32, row: usize) -> u64
     requires { row < length rows.now }
     ensures { result ≡ faults.list_end (cells_in rows.now) column members row }
 {
@@ -64,7 +65,7 @@ fn list_end(rows: &[Vec<u32>], column: usize, members: u32, row: usize) -> u64
     }
 }
 
-fn is_disordered(rows: &[Vec<u32>], column: usize, members: u32, row: usize) -> bool
+fn is_disordered(rows: &[Cells], column: usize, members: u32, row: usize) -> bool
     requires { row < length rows.now }
     ensures { result ≡ faults.is_disordered (cells_in rows.now) column members row }
 {
@@ -73,7 +74,7 @@ fn is_disordered(rows: &[Vec<u32>], column: usize, members: u32, row: usize) -> 
 }
 
 /// The first row whose list runs backwards, or past the end of a table of so many members.
-pub fn disordered_row(rows: &[Vec<u32>], count: u32, column: usize, members: u32) -> Option<u32>
+pub fn disordered_row(rows: &[Cells], count: u32, column: usize, members: u32) -> Option<u32>
     requires { length rows.now ≡ count }
     ensures { result ≡ faults.disordered_row (cells_in rows.now) column members }
 {

@@ -2,6 +2,7 @@
 
 ghost use Rattle.std.specs.Prelude.{◌≡◌, length};
 
+use crate::cells::{Cells, cells_from};
 use crate::numbers::place;
 use md_schema::{Row, Table};
 use std::alloc::{AllocError, Global};
@@ -15,8 +16,7 @@ pub struct TableSet {
     pub long_guids: bool,
     /// Indices into `#Blob` have four bytes.
     pub long_blobs: bool,
-    pub tables: Vec<Vec<Vec<u32>>>,
-    alloc: Global,
+    pub tables: Vec<Vec<Cells>>,
     pub ghost all: { length tables.items ≡ 38 },
 }
 
@@ -48,7 +48,6 @@ impl TableSet {
             long_guids,
             long_blobs,
             tables,
-            alloc,
         })
     }
 
@@ -61,12 +60,11 @@ impl TableSet {
         ensures guids { self.new.long_guids ≡ self.old.long_guids }
         ensures blobs { self.new.long_blobs ≡ self.old.long_blobs }
     {
-        let cells = Vec::from_slice(self.alloc, &row.cells)?;
-        self.push_cells(table, cells)
+        self.push_cells(table, cells_from(&row.cells))
     }
 
     /// Adds a row at the end of a table, with a cell for each of its columns.
-    pub fn push_cells(&mut self, table: Table, cells: Vec<u32>) -> Result<(), AllocError>
+    pub fn push_cells(&mut self, table: Table, cells: Cells) -> Result<(), AllocError>
         requires { length cells.items ≡ length (columns_of table) }
         ensures added { OnOk result (rows_in self.new ≡ with_row (rows_in self.old) table cells.items) }
         ensures unchanged { OnErr result (rows_in self.new ≡ rows_in self.old) }
@@ -79,7 +77,7 @@ impl TableSet {
     }
 
     /// The rows of a table.
-    pub fn rows(&self, table: Table) -> &[Vec<u32>]
+    pub fn rows(&self, table: Table) -> &[Cells]
         ensures { cells_in result.now ≡ rows_in self.now table }
     {
         self.tables[place(table)].as_slice()

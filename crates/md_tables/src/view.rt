@@ -6,13 +6,14 @@ ghost use Rattle.md_schema.specs.Faults.{fault_at};
 ghost use Rattle.md_tables.specs.Lists.{cells_in};
 ghost use Rattle.md_tables.specs.Rows.{rows_of};
 
+use crate::cells::Cells;
 use crate::numbers::place;
 use md_schema::{ImageFault, ImageKind, Row, Table};
 
 /// The rows of each table, read from a stream of tables.
 #[derive(Debug, Drop)]
 pub struct TableView {
-    pub tables: Vec<Vec<Vec<u32>>>,
+    pub tables: Vec<Vec<Cells>>,
 }
 
 impl TableView {
@@ -38,7 +39,7 @@ impl TableView {
     }
 
     /// The rows of a table.
-    pub fn rows(&self, table: Table) -> &[Vec<u32>]
+    pub fn rows(&self, table: Table) -> &[Cells]
         ensures { cells_in result.now ≡ rows_of self.now table }
     {
         match self.tables.get(place(table)) {

@@ -1,20 +1,20 @@
 //! Which sets can be written.
 
-ghost use Rattle.std.specs.Prelude.{◌≡◌, ◌≤◌, ◌<◌, ◌^◌, ◌↔◌, IsTrue, None, length, map};
+ghost use Rattle.std.specs.Prelude.{◌≡◌, ◌≤◌, ◌<◌, ◌^◌, ◌↔◌, ℕ, IsTrue, None, get_or, length};
 ghost use Rattle.std.specs.List.{AllByRecursion};
 ghost use Rattle.md_schema.specs.declared.table.Table.{Table};
 ghost use Rattle.md_schema.specs.Tables.{widths_of};
-ghost use Rattle.md_schema.specs.Widths.{width_of};
 ghost use Rattle.md_schema.specs.Written.{RowFits};
 ghost use Rattle.md_tables.specs.Faults.{disorder, disordered_in};
 ghost use Rattle.md_tables.specs.Lists.{cells_in};
 ghost use Rattle.md_tables.specs.Rows.{rows_in, sizes_in};
 ghost use Rattle.md_tables.specs.Writable.{Writable};
 
+use crate::cells::{Cells, widths};
 use crate::lists::{ROW_LISTS, RowList, disordered_row};
 use crate::set::TableSet;
 use crate::write::sizes;
-use md_schema::{Column, Sizes, TABLES, Table, columns, width};
+use md_schema::{Sizes, TABLES, Table, columns};
 
 /// Whether a set can be written, as `write_tables` asks for.
 pub fn is_writable(set: &TableSet) -> bool
@@ -44,18 +44,26 @@ fn all_fit(set: &TableSet, sizes: &Sizes, tables: &[Table]) -> bool
     ensures { IsTrue result ↔ AllByRecursion (λ table. AllByRecursion (RowFits (widths_of sizes.now table)) (rows_in set.now table)) tables.now }
 {
     for table in tables {
-        if !rows_fit(sizes, columns(*table), set.rows(*table)) {
+        if !table_fits(set, sizes, *table) {
             return false;
         }
     }
     true
 }
 
-fn rows_fit(sizes: &Sizes, columns: &[Column], rows: &[Vec<u32>]) -> bool
-    ensures { IsTrue result ↔ AllByRecursion (RowFits (map (width_of sizes.now) columns.now)) (cells_in rows.now) }
+fn table_fits(set: &TableSet, sizes: &Sizes, table: Table) -> bool
+    ensures { IsTrue result ↔ AllByRecursion (RowFits (widths_of sizes.now table)) (rows_in set.now table) }
+{
+    let widths = widths(sizes, columns(table));
+    rows_fit(&widths, set.rows(table))
+}
+
+fn rows_fit(widths: &[u32], rows: &[Cells]) -> bool
+    requires { (i : ℕ) → get_or widths.now i 0 ≤ 4 }
+    ensures { IsTrue result ↔ AllByRecursion (RowFits widths.now) (cells_in rows.now) }
 {
     for row in rows {
-        if !row_fits(sizes, columns, row) {
+        if !row_fits(widths, row) {
             return false;
         }
     }
@@ -63,14 +71,15 @@ fn rows_fit(sizes: &Sizes, columns: &[Column], rows: &[Vec<u32>]) -> bool
 }
 
 /// Whether a row has a number for each column, which fits it.
-fn row_fits(sizes: &Sizes, columns: &[Column], cells: &[u32]) -> bool
-    ensures { IsTrue result ↔ RowFits (map (width_of sizes.now) columns.now) cells.now }
+fn row_fits(widths: &[u32], cells: &[u32]) -> bool
+    requires { (i : ℕ) → get_or widths.now i 0 ≤ 4 }
+    ensures { IsTrue result ↔ RowFits widths.now cells.now }
 {
-    if cells.len() != columns.len() {
+    if cells.len() != widths.len() {
         return false;
     }
-    for i in 0..columns.len() {
-        if !cell_fits(cells[i], width(sizes, columns[i])) {
+    for i in 0..widths.len() {
+        if !cell_fits(cells[i], widths[i]) {
             return false;
         }
     }

@@ -14,6 +14,7 @@ ghost use Rattle.md_tables.specs.Numbers.{count_or};
 ghost use Rattle.md_tables.specs.Rows.{rows_in, sizes_in};
 
 use crate::bits::valid_bits;
+use crate::cells::{Cells, widths};
 use crate::numbers::{place, table_at};
 use crate::put::put_rows;
 use crate::set::TableSet;
@@ -109,7 +110,7 @@ fn put_counts(out: &mut Vec<u8>, rows: &[u32]) -> Result<(), AllocError>
 fn put_tables(
     out: &mut Vec<u8>,
     sizes: &Sizes,
-    tables: &[Vec<Vec<u32>>],
+    tables: &[Vec<Cells>],
     order: &[Table],
 ) -> Result<(), AllocError>
     requires { length tables.now ≡ 38 }
@@ -125,12 +126,13 @@ fn put_tables(
 fn put_table(
     out: &mut Vec<u8>,
     sizes: &Sizes,
-    tables: &[Vec<Vec<u32>>],
+    tables: &[Vec<Cells>],
     table: Table,
 ) -> Result<(), AllocError>
     requires { length tables.now ≡ 38 }
     ensures { OnOk result (out.new.items
         ≡ out.old.items ++ rows_bytes sizes.now (λ t. get_or (lists_in tables.now) (place_of t) []) table) }
 {
-    put_rows(out, sizes, columns(table), &tables[place(table)])
+    let widths = widths(sizes, columns(table));
+    put_rows(out, &widths, &tables[place(table)])
 }

@@ -1,6 +1,6 @@
 //! The cells of a line as numbers.
 
-ghost use Rattle.std.specs.Prelude.{◌≡◌, ◌<◌, ◌^◌, IsTrue, true, length, map, IfOk};
+ghost use Rattle.std.specs.Prelude.{◌≡◌, ◌<◌, ◌≤◌, ◌^◌, IsTrue, true, length, map, IfOk};
 ghost use Rattle.std.specs.List.{Contains};
 ghost use Rattle.md_heaps.specs.Blobs.{BlobHere, blob_bytes};
 ghost use Rattle.md_heaps.specs.Heaps.{EachStands, Keeps};
@@ -17,9 +17,8 @@ use crate::heaps::{intern_blob, intern_text};
 use crate::index::index;
 use md_heaps::{BlobHeap, TextHeap};
 use md_schema::Column;
-use md_tables::TableSet;
+use md_tables::{Cells, TableSet};
 use ranked::Memory;
-use std::alloc::Global;
 
 /// The number of a cell.
 #[tactic(auto, using(md_heaps::proofs::HeapLaws::keeps_same, crate::proofs::TightLaws::grew_same))]
@@ -54,13 +53,13 @@ pub fn number(
 /// The numbers of cells, one for each column.
 #[tactic(auto, using(crate::proofs::TightLaws::grew_same))]
 pub fn numbers(
-    alloc: Global,
     texts: &mut TextHeap,
     blobs: &mut BlobHeap,
     set: &TableSet,
     columns: &[Column],
     cells: &[Cell<'_>],
-) -> Result<Vec<u32>, Memory>
+) -> Result<Cells, Memory>
+    requires few_columns { length columns.now ≤ 9 }
     requires fits { IsTrue (cells_fit columns.now cells.now) }
     requires few { (table : Table) → length (rows_in set.now table) < 2 ^ 24 }
     requires standing { EachStands BlobHere blobs.old }
@@ -71,9 +70,9 @@ pub fn numbers(
     ensures grew_blobs { IfOk result (λ row. Grew blob_bytes (λ content. Contains (map (value_of (counts (rows_in set.now))) cells.now) (Blob content)) blobs.old blobs.new) }
     ensures says { IfOk result (λ row. Says texts.new blobs.new columns.now row.items (map (value_of (counts (rows_in set.now))) cells.now)) }
 {
-    let mut row = Vec::with_capacity(alloc, cells.len())?;
+    let mut row = Cells::new();
     for i in 0..cells.len() {
-        row.push(number(texts, blobs, set, columns[i], cells[i])?)?;
+        row.push(number(texts, blobs, set, columns[i], cells[i])?);
     }
     Ok(row)
 }

@@ -25,7 +25,6 @@ pub struct Writer {
     pub set: TableSet,
     pub texts: TextHeap,
     pub blobs: BlobHeap,
-    alloc: Global,
     /// Whether a line was given up, so that a heap may have what no row says.
     pub failed: bool,
     pub ghost room: { (table : Table) → length (rows_in set table) < 2 ^ 24 },
@@ -57,7 +56,6 @@ impl Writer {
             set,
             texts,
             blobs,
-            alloc,
             failed: false,
         })
     }
@@ -74,7 +72,6 @@ impl Writer {
         let failed = self.failed;
         self.failed = true;
         let row = numbers(
-            self.alloc,
             &mut self.texts,
             &mut self.blobs,
             &self.set,

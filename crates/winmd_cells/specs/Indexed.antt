@@ -2,10 +2,13 @@
 use Rattle.std.specs.Prelude.{◌≡◌, ℕ, ◌==◌, Bool, true, false, List, [], ◌∷◌, map, get_or, Option, Some, None, Vec}
 use Rattle.std.specs.declared.alloc.Global.{Global}
 use Rattle.md_schema.specs.declared.table.Table.{Table}
-use Rattle.md_tables.specs.Lists.{cells_in}
 use Rattle.winmd_lines.specs.Cells.{rows_of_owner, passes, leads, cell}
 use Rattle.winmd_cells.specs.declared.image.Image.{Image}
 use Rattle.winmd_cells.specs.Seen.{seen, tables_in, row_seen}
+
+-- lists of numbers
+abbrev pub numbers_in : List (Vec ℕ Global) → List (List ℕ)
+numbers_in lists = map (λ list. list.items) lists
 
 -- it is this row
 abbrev pub is_row : ℕ → Option ℕ → Bool
@@ -22,4 +25,4 @@ only false n = []
 
 -- The list of each number is that of the rows which belong to the row of that number; there is none for a number without a row.
 abbrev pub IsIndex : Image → Table → ℕ → Table → List (Vec ℕ Global) → Type 0
-IsIndex image keyed column owner lists = (m : ℕ) → map (seen image keyed) (get_or (cells_in lists) m []) ≡ rows_of_owner (tables_in image) keyed column owner m
+IsIndex image keyed column owner lists = (m : ℕ) → map (seen image keyed) (get_or (numbers_in lists) m []) ≡ rows_of_owner (tables_in image) keyed column owner m

@@ -1,20 +1,20 @@
 //! An image's rows and heaps, as reading has them.
 
-ghost use Rattle.std.specs.Prelude.{◌<◌, ◌≤◌, ◌≡◌, ◌^◌, ◌+◌, length, get_or};
+ghost use Rattle.std.specs.Prelude.{◌<◌, ◌≤◌, ◌≡◌, ◌^◌, ◌+◌, [], length, get_or};
 ghost use Rattle.md_schema.specs.declared.table.Table.{Table};
 ghost use Rattle.md_schema.specs.Schema.{place_of};
-ghost use Rattle.md_schema.specs.Tables.{raw, rows_from, sizes_of, table_start, upto};
+ghost use Rattle.md_schema.specs.Tables.{raw, rows_from, sizes_of, table_start, upto, widths_of};
+ghost use Rattle.md_tables.specs.Lists.{cells_in};
 ghost use Rattle.md_tables.specs.Rows.{rows_of};
 
-use md_schema::Sizes;
-use md_tables::TableView;
+use md_tables::{Cells, TableView};
 use strings_heap::StringsHeap;
 
 /// What is worked out once of a tables' stream: by it any cell's place is found, and any list of rows is a part of one list.
 #[derive(Drop)]
 pub struct Places {
-    /// Which indices are wide.
-    pub sizes: Sizes,
+    /// How many bytes the cells of each column have, in the order of tables.
+    pub widths: Vec<Cells>,
     /// Where each table begins in the stream, in the order of tables.
     pub starts: Vec<u64>,
     /// The numbers from 1 on, as many as the longest table has rows.
@@ -38,7 +38,7 @@ pub struct Image<'a> {
     pub ghost read: { (table : Table) → rows_of view.now table ≡ raw stream.now table },
     pub ghost few: { (table : Table) → length (rows_of view.now table) < 2 ^ 32 },
     pub ghost low: { at < 2 ^ 60 },
-    pub ghost sized: { places.now.sizes ≡ sizes_of stream.now },
+    pub ghost wide: { (table : Table) → get_or (cells_in places.now.widths.items) (place_of table) [] ≡ widths_of (sizes_of stream.now) table },
     pub ghost started: { (table : Table) → get_or places.now.starts.items (place_of table) 0 ≡ rows_from stream.now + table_start (sizes_of stream.now) table },
     pub ghost near: { (table : Table) → get_or places.now.starts.items (place_of table) 0 < 2 ^ 50 },
     pub ghost enough: { (table : Table) → length (rows_of view.now table) ≤ length places.now.numbers.items },

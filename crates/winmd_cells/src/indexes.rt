@@ -1,7 +1,7 @@
 //! Rows by the row to which a column leads, found once for all rows. No fault is met here: a cell that leads nowhere is passed over.
 
 ghost use Rattle.std.specs.Prelude.{◌≡◌, ◌<◌, ◌≤◌, ◌-◌, ◌+◌, ◌^◌, ◌++◌, ◌∷◌, [], ℕ, OnOk, IfOk, map, suc, length, get_or, Some, slice_set};
-ghost use Rattle.md_tables.specs.Lists.{cells_in};
+ghost use Rattle.winmd_cells.specs.Indexed.{numbers_in};
 ghost use Rattle.winmd_lines.specs.Cells as cells_as;
 ghost use Rattle.winmd_cells.specs.Indexed.{IsIndex, is_row, leads_by, only};
 ghost use Rattle.winmd_cells.specs.Seen.{seen, tables_in, heaps_in, followed_cell, row_seen, value_seen};
@@ -46,7 +46,7 @@ impl<'a> Image<'a> {
 
 fn add(lists: &mut Vec<Vec<u32>>, m: usize, n: u32) -> Result<(), Memory>
     requires { m < length lists.old.items }
-    ensures { OnOk result (cells_in lists.new.items ≡ slice_set (cells_in lists.old.items) m (get_or (cells_in lists.old.items) m [] ++ n ∷ [])) }
+    ensures { OnOk result (numbers_in lists.new.items ≡ slice_set (numbers_in lists.old.items) m (get_or (numbers_in lists.old.items) m [] ++ n ∷ [])) }
 {
     lists[m].push(n)?;
     Ok(())
@@ -54,7 +54,7 @@ fn add(lists: &mut Vec<Vec<u32>>, m: usize, n: u32) -> Result<(), Memory>
 
 fn put(lists: &mut Vec<Vec<u32>>, owner: Option<u32>, n: u32) -> Result<(), Memory>
     ensures same { OnOk result (length lists.new.items ≡ length lists.old.items) }
-    ensures put { OnOk result ((m : ℕ) → m < length lists.old.items → get_or (cells_in lists.new.items) m [] ≡ get_or (cells_in lists.old.items) m [] ++ only (is_row m owner) n) }
+    ensures put { OnOk result ((m : ℕ) → m < length lists.old.items → get_or (numbers_in lists.new.items) m [] ≡ get_or (numbers_in lists.old.items) m [] ++ only (is_row m owner) n) }
 {
     match owner {
         Some(m) if (m as usize) < lists.len() => add(lists, m as usize, n),
@@ -64,7 +64,7 @@ fn put(lists: &mut Vec<Vec<u32>>, owner: Option<u32>, n: u32) -> Result<(), Memo
 
 fn empty_lists(alloc: Global, count: usize) -> Result<Vec<Vec<u32>>, Memory>
     ensures length { IfOk result (λ lists. length lists.items ≡ count) }
-    ensures empty { IfOk result (λ lists. (m : ℕ) → get_or (cells_in lists.items) m [] ≡ []) }
+    ensures empty { IfOk result (λ lists. (m : ℕ) → get_or (numbers_in lists.items) m [] ≡ []) }
 {
     let mut lists = Vec::new(alloc);
     for made in 0..count {
@@ -92,7 +92,7 @@ pub fn index(
 
 /// The rows that belong to the row of a number, by an index.
 pub fn owned(index: &[Vec<u32>], n: u32) -> &[u32]
-    ensures { result.now ≡ get_or (cells_in index.now) n [] }
+    ensures { result.now ≡ get_or (numbers_in index.now) n [] }
 {
     match index.get(n as usize) {
         Some(rows) => rows.as_slice(),

@@ -9,7 +9,7 @@ ghost use Rattle.winmd_cells.specs.Seen.{tables_in, tables_of};
 
 use crate::image::{Image, Places};
 use crate::sizes::{rows_from, sizes};
-use crate::starts::{longest, numbers_to, starts_of};
+use crate::starts::{longest, numbers_to, starts_of, widths_of};
 use md_schema::TABLES;
 use md_tables::TableView;
 use ranked::Memory;
@@ -24,8 +24,9 @@ pub fn places_of(alloc: Global, stream: &[u8]) -> Result<Places, Memory>
     let sizes = sizes(stream);
     let numbers = numbers_to(alloc, longest(&sizes, &TABLES))?;
     let starts = starts_of(alloc, &sizes, rows_from(stream), &TABLES)?;
+    let widths = widths_of(alloc, &sizes, &TABLES)?;
     Ok(Places {
-        sizes,
+        widths,
         starts,
         numbers,
     })

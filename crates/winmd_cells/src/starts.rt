@@ -4,11 +4,13 @@ ghost use Rattle.std.specs.Prelude.{◌≡◌, ◌≤◌, ◌<◌, ◌^◌, ◌+
 ghost use Rattle.md_bytes.specs.Bytes.{total};
 ghost use Rattle.md_schema.specs.Schema.{all_tables, place_of};
 ghost use Rattle.md_schema.specs.Tables.{table_size, table_start, upto};
+ghost use Rattle.md_schema.specs.Tables as width_as;
+ghost use Rattle.md_tables.specs.Lists.{cells_in};
 ghost use Rattle.md_schema.specs.Widths.{count_of};
 
 use crate::offsets::total_width;
 use md_schema::{Sizes, TABLES, Table, columns};
-use md_tables::place;
+use md_tables::{Cells, place, widths};
 use ranked::Memory;
 use std::alloc::Global;
 
@@ -65,6 +67,17 @@ pub fn starts_of(
         starts.push(start_of(sizes, from, *table))?;
     }
     Ok(starts)
+}
+
+/// How many bytes the cells of each column of these tables have.
+pub fn widths_of(alloc: Global, sizes: &Sizes, order: &[Table]) -> Result<Vec<Cells>, Memory>
+    ensures { IfOk result (λ list. cells_in list.items ≡ map (width_as.widths_of sizes.now) order.now) }
+{
+    let mut list = Vec::new(alloc);
+    for table in order {
+        list.push(widths(sizes, columns(*table)))?;
+    }
+    Ok(list)
 }
 
 fn larger(a: u32, b: u32) -> u32

@@ -8,7 +8,7 @@ use Rattle.md_schema.specs.declared.table.Table.TheVariants as tables
 use Rattle.md_schema.specs.Schema.{columns_of}
 use Rattle.md_schema.specs.Tables.{cell as raw_cell, sizes_of, upto}
 use Rattle.md_schema.specs.Widths.{count_of}
-use Rattle.md_tables.specs.Lists.{cells_in}
+use Rattle.winmd_cells.specs.Indexed.{numbers_in}
 use Rattle.winmd_rows.specs.Values.{Heaps, To, followed_row, followed_rows}
 use Rattle.winmd_lines.specs.Cells.{Row, Numbered, as_row, cell, leads, numbered, passes}
 use Rattle.winmd_sets.specs.Attributes.{owner_of}
@@ -102,9 +102,9 @@ starting_few image n =
     omega (arith, a, b)
 
 pub list_length : (image : Image) (lists : List (Vec ℕ Global)) (n : ℕ) → IsIndex image tables.TypeDef 5 tables.MethodDef lists → n ≤ length ((tables_in image).rows tables.MethodDef)
-    → length (get_or (cells_in lists) n []) ≡ length (starting image n)
+    → length (get_or (numbers_in lists) n []) ≡ length (starting image n)
 list_length image lists n index within =
-    sym (length-map (get_or (cells_in lists) n []) (seen image tables.TypeDef)) ∙ ap length (index n)
+    sym (length-map (get_or (numbers_in lists) n []) (seen image tables.TypeDef)) ∙ ap length (index n)
     ∙ (let e : nat_le n (length ((tables_in image).rows tables.MethodDef)) ≡ true = grind arith in rw e refl)
 
 -- the first number

@@ -1,9 +1,8 @@
-use Rattle.std.proofs.Common.{◌≡◌, ◌++◌, map, take}
+use Rattle.std.proofs.Common.{◌≡◌, ◌++◌, take}
 use Rattle.std.specs.List.{flat_map}
-use Rattle.md_schema.specs.Widths.{width_of}
 use Rattle.md_schema.specs.Written.{row_bytes}
 use Rattle.md_tables.specs.Lists.{cells_in}
 use Rattle.md_tables.proofs.put.put_rows.Given as goal
 
 abbrev pub invariant-loop-row : goal.invariant-loop-row
-invariant-loop-row l = l.out.items ≡ l.fn.out.items ++ flat_map (row_bytes (map (width_of l.sizes) l.columns)) (cells_in (take l.row-index l.rows))
+invariant-loop-row l = l.out.items ≡ l.fn.out.items ++ flat_map (row_bytes l.widths) (cells_in (take l.row-index l.rows))

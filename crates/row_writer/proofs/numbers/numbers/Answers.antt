@@ -1,4 +1,4 @@
-use Rattle.std.proofs.Common.{◌≡◌, ℕ, suc, ◌+◌, List, length, take, map, sym, subst, arith}
+use Rattle.std.proofs.Common.{◌≡◌, ℕ, suc, ◌+◌, List, length, take, map, ap, sym, subst, ◌∙◌, arith}
 use Rattle.std.proofs.lemmas.List.{take_all, length-map}
 use Rattle.md_heaps.specs.Blobs.{blob_bytes}
 use Rattle.md_heaps.specs.Texts.{text_bytes}
@@ -27,11 +27,10 @@ returns-in_err-number-clause-texts c = keeps_on c.args.texts.now c.loop-i.texts 
 pub returns-in_err-number-clause-blobs : goal.returns-in_err-number-clause-blobs
 returns-in_err-number-clause-blobs c = keeps_on c.args.blobs.now c.loop-i.blobs c.number.new.blobs c.loop-i.invariant.1 c.number.ensures.blobs
 
-pub returns-in_err-push-clause-texts : goal.returns-in_err-push-clause-texts
-returns-in_err-push-clause-texts c = keeps_on c.args.texts.now c.loop-i.texts c.number.new.texts c.loop-i.invariant.0 c.number.ensures.texts
-
-pub returns-in_err-push-clause-blobs : goal.returns-in_err-push-clause-blobs
-returns-in_err-push-clause-blobs c = keeps_on c.args.blobs.now c.loop-i.blobs c.number.new.blobs c.loop-i.invariant.1 c.number.ensures.blobs
+pub push-requires : goal.push-requires
+push-requires c =
+    let many = fits_length c.args.columns.now c.args.cells.now c.requires.fits in
+    omega (arith, c.loop-i.invariant.6, c.loop-i-test.true, many, c.requires.few_columns)
 
 pub loop-i-preserved : goal.loop-i-preserved
 loop-i-preserved c = (
@@ -42,9 +41,10 @@ loop-i-preserved c = (
       c.args.columns.now c.args.cells.now c.loop-i.row.items c.loop-i.i c.in_ok-number.field-0 One (cells.Number 0) c.requires.fits c.loop-i-test.true c.loop-i.invariant.3 c.in_ok-number.ensures.value in
       let one : suc c.loop-i.i ≡ c.loop-i.i + 1 = omega arith in
       subst (λ (k : ℕ). Says c.number.new.texts c.number.new.blobs (take k c.args.columns.now) c.push.new.self.items (take k (map (value_of (counts (rows_in c.args.set.now))) c.args.cells.now))) one
-      (subst (λ (ns : List ℕ). Says c.number.new.texts c.number.new.blobs (take (suc c.loop-i.i) c.args.columns.now) ns (take (suc c.loop-i.i) (map (value_of (counts (rows_in c.args.set.now))) c.args.cells.now))) (sym c.in_ok-push.ensures.items) next)),
+      (subst (λ (ns : List ℕ). Says c.number.new.texts c.number.new.blobs (take (suc c.loop-i.i) c.args.columns.now) ns (take (suc c.loop-i.i) (map (value_of (counts (rows_in c.args.set.now))) c.args.cells.now))) (sym c.push.ensures.items) next)),
   grew_cell text_bytes Text (value_of (counts (rows_in c.args.set.now))) c.args.cells.now c.loop-i.i (cells.Number 0) c.args.texts.now c.loop-i.texts c.number.new.texts c.loop-i-test.true c.loop-i.invariant.4 c.in_ok-number.ensures.grew_texts,
   grew_cell blob_bytes Blob (value_of (counts (rows_in c.args.set.now))) c.args.cells.now c.loop-i.i (cells.Number 0) c.args.blobs.now c.loop-i.blobs c.number.new.blobs c.loop-i-test.true c.loop-i.invariant.5 c.in_ok-number.ensures.grew_blobs,
+  c.push.ensures.len ∙ ap (λ (n : ℕ). n + 1) c.loop-i.invariant.6,
 )
 
 pub returns-clause-says : goal.returns-clause-says

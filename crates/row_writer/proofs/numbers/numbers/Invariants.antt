@@ -1,4 +1,4 @@
-use Rattle.std.specs.Prelude.{take, map}
+use Rattle.std.specs.Prelude.{◌≡◌, length, take, map}
 use Rattle.std.specs.List.{Contains}
 use Rattle.md_heaps.specs.Blobs.{BlobHere, blob_bytes}
 use Rattle.md_heaps.specs.Texts.{text_bytes}
@@ -16,3 +16,4 @@ invariant-loop-i l =
     × Says l.texts l.blobs (take l.i l.columns) l.row.items (take l.i (map (value_of (counts (rows_in l.set))) l.cells))
     × Grew text_bytes (λ content. Contains (map (value_of (counts (rows_in l.set))) l.cells) (Text content)) l.fn.texts l.texts
     × Grew blob_bytes (λ content. Contains (map (value_of (counts (rows_in l.set))) l.cells) (Blob content)) l.fn.blobs l.blobs
+    × (length l.row.items ≡ l.i)

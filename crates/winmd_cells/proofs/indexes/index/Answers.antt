@@ -2,7 +2,7 @@ use Rattle.std.proofs.Common.{◌≡◌, ◌<◌, ap, ◌∙◌, sym, map, arith
 use Rattle.std.specs.List.{filter}
 use Rattle.std.proofs.lemmas.List.{length-map}
 use Rattle.md_schema.specs.Tables.{upto}
-use Rattle.md_tables.specs.Lists.{cells_in}
+use Rattle.winmd_cells.specs.Indexed.{numbers_in}
 use Rattle.winmd_cells.specs.Seen.{seen, tables_in}
 use Rattle.winmd_cells.specs.Indexed.{leads_by, only, is_row}
 use Rattle.winmd_cells.proofs.RowLaws.{none_yet, grows, leading_seen, listed, mapped_if}
@@ -27,8 +27,8 @@ loop-i-preserved c = (
 pub returns : goal.returns
 returns c = λ m.
     let done : c.loop-i.i ≡ c.count-i-end.result = omega (arith, c.loop-i-test.false, c.loop-i.auto.i-end) in
-    let long : length (cells_in c.loop-i.lists.items) ≡ length c.loop-i.lists.items = length-map c.loop-i.lists.items (λ row. row.items) in
-    ap (map (seen c.args.image.now c.args.keyed)) (listed (λ k. filter (leads_by c.args.image.now c.args.keyed c.args.column c.args.owner k) (upto 1 c.loop-i.i)) (cells_in c.loop-i.lists.items) (length ((tables_in c.args.image.now).rows c.args.owner)) m
+    let long : length (numbers_in c.loop-i.lists.items) ≡ length c.loop-i.lists.items = length-map c.loop-i.lists.items (λ row. row.items) in
+    ap (map (seen c.args.image.now c.args.keyed)) (listed (λ k. filter (leads_by c.args.image.now c.args.keyed c.args.column c.args.owner k) (upto 1 c.loop-i.i)) (numbers_in c.loop-i.lists.items) (length ((tables_in c.args.image.now).rows c.args.owner)) m
     (long ∙ c.loop-i.invariant.0) (λ k h. c.loop-i.invariant.1 k (rw (sym long) h)))
     ∙ mapped_if (seen c.args.image.now c.args.keyed) (nat_le m (length ((tables_in c.args.image.now).rows c.args.owner))) (filter (leads_by c.args.image.now c.args.keyed c.args.column c.args.owner m) (upto 1 c.loop-i.i))
     ∙ ap (λ xs. cond (nat_le m (length ((tables_in c.args.image.now).rows c.args.owner))) xs []) (rw (done, c.count-i-end.ensures) (sym (leading_seen c.args.image.now c.args.keyed c.args.column c.args.owner m)))
