@@ -1,6 +1,7 @@
 -- Lists by table.
-use Rattle.std.proofs.Common.{◌≡◌, ℕ, zero, suc, ◌+◌, ◌≤◌, ◌<◌, List, [], ◌∷◌, ◌++◌, take, map, get_or, length, refl, sym, subst, arith}
+use Rattle.std.proofs.Common.{◌≡◌, ℕ, zero, suc, ◌+◌, ◌*◌, ◌^◌, ◌≤◌, ◌<◌, List, [], ◌∷◌, ◌++◌, take, map, get_or, length, refl, sym, subst, arith}
 use Rattle.std.proofs.Math.Seq.{take-suc}
+use Rattle.std.proofs.lemmas.Nat.{mul-le}
 use Rattle.std.proofs.lemmas.List.{length-map, map_push}
 use Rattle.md_schema.specs.declared.table.Table.{Table}
 use Rattle.md_schema.specs.declared.table.Table.TheVariants as tables
@@ -145,3 +146,9 @@ at_place_list f tables.NestedClass = refl
 at_place_list f tables.GenericParam = refl
 at_place_list f tables.MethodSpec = refl
 at_place_list f tables.GenericParamConstraint = refl
+
+-- where a cell stands, as a number that isn't large
+pub low_place : (start above width left : ℕ) → start < 2 ^ 50 → above < 2 ^ 32 → width ≤ 36 → left ≤ 36 → start + above * width + left < 2 ^ 51
+low_place start above width left low few narrow before =
+    let h : above * width ≤ 4294967296 * 36 = mul-le above width 4294967296 36 (omega arith) narrow in
+    omega (arith, low, before, h)

@@ -14,7 +14,7 @@ invariant_of-result c =
       read = c.requires.read;
       few = λ table. (let most = whole table in let short = c.requires.places.short in omega (arith, most, short));
       low = c.requires.low;
-      sized = c.requires.places.sized;
+      wide = c.requires.places.wide;
       started = c.requires.places.started;
       near = c.requires.places.near;
       enough = whole;
