@@ -1,6 +1,7 @@
 -- A set of rows of which two tables are sorted.
 use Rattle.std.proofs.Common.{◌≡◌, ℕ, ◌<◌, false, List, [], length, set, get_or, refl, sym, ap, subst, ◌∙◌, arith, inl, inr}
 use Rattle.std.specs.Prelude.{Vec, ◌==◌}
+use Rattle.arrayvec.specs.ArrayVec.{ArrayVec}
 use Rattle.std.specs.declared.alloc.Global.{Global}
 use Rattle.std.proofs.lemmas.Bool.{eqb-false}
 use Rattle.std.proofs.lemmas.List.{get_or-set_same, get_or-set_other, length-set}
@@ -43,7 +44,7 @@ module _ (lists : List (List (List ℕ))) (a b : List (List ℕ)) (many : length
       ]
 
 -- from the tables as code holds them
-pub two_sorted : (held : List (Vec (Vec ℕ Global) Global)) (a b was_a was_b : Vec (Vec ℕ Global) Global) → length held ≡ 38 → was_a ≡ get_or held 9 was_a → was_b ≡ get_or (set held 9 a) 19 was_b
+pub two_sorted : (held : List (Vec (ArrayVec ℕ) Global)) (a b was_a was_b : Vec (ArrayVec ℕ) Global) → length held ≡ 38 → was_a ≡ get_or held 9 was_a → was_b ≡ get_or (set held 9 a) 19 was_b
     → cells_in a.items ≡ sort_by (number_in 0) (cells_in was_a.items) → cells_in b.items ≡ sort_by (number_in 2) (cells_in was_b.items)
     → (t : Table) → get_or (lists_in (set (set held 9 a) 19 b)) (place_of t) [] ≡ sorted_rows t (get_or (lists_in held) (place_of t) [])
 two_sorted held a b was_a was_b many ea eb sa sb t =

@@ -6,7 +6,7 @@ ghost use Rattle.md_tables.specs.Rows.{rows_in};
 ghost use Rattle.winmd_lines.specs.Orders.{sort_by};
 ghost use Rattle.winmd_writer.specs.Sorted.{number_in, all_sorted};
 
-use md_tables::TableSet;
+use md_tables::{Cells, TableSet};
 use std::alloc::AllocError;
 
 /// Where the rows of CustomAttribute stand among the tables, and the column of their parents.
@@ -19,7 +19,7 @@ const SEMANTICS: usize = 19;
 
 const ASSOCIATION: usize = 2;
 
-fn number_at(row: &Vec<u32>, column: usize) -> u32
+fn number_at(row: &Cells, column: usize) -> u32
     ensures { result ≡ number_in column row.now.items }
 {
     match row.get(column) {
@@ -29,7 +29,7 @@ fn number_at(row: &Vec<u32>, column: usize) -> u32
 }
 
 /// Puts rows in the order of the numbers of a column. Rows of one number stay as they stand.
-fn sort_rows(rows: &mut Vec<Vec<u32>>, column: usize) -> Result<(), AllocError>
+fn sort_rows(rows: &mut Vec<Cells>, column: usize) -> Result<(), AllocError>
     ensures { OnOk result (cells_in rows.new.items ≡ sort_by (number_in column) (cells_in rows.old.items)) }
 {
     rows.sort_by_key(|row| number_at(row, column))?;
